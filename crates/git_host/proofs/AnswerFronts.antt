@@ -62,7 +62,7 @@ module _ (format : Format) (q : FetchAsked) where
       → length (kept ++ fresh) ≡ length q.want_refs → All (λ id. id.format ≡ format) (kept ++ fresh) → Completes q (no_facts (kept ++ fresh)) []
       → IsFrontBy format (fetch q) (of_fetch a (no_facts kept)) []
   with_all a kept fresh wants found count of c = record {
-    later = of_fetch (record { wants = all_there q.wants; found = map Some (kept ++ fresh) }) (absent_more c.absent c.ended (no_facts (kept ++ fresh)));
+    later = of_fetch (record { wants = all_there q.wants; found = map Some (kept ++ fresh) }) (absent_more c.absent c.ready c.ended (no_facts (kept ++ fresh)));
     grows = (
       record {
         wants = wants;
@@ -70,7 +70,7 @@ module _ (format : Format) (q : FetchAsked) where
       },
       record {
         has = (c.absent, refl);
-        ready = λ is. absurd (cc);
+        ready = λ ready is. absurd (cc);
         boundary = ([], refl);
         boundary_ended = λ is. absurd (cc);
         wanted = (fresh, refl);
@@ -82,7 +82,7 @@ module _ (format : Format) (q : FetchAsked) where
     answer = (
       record { there = refl; found = refl; all = count; of_format = of },
       record {
-        sound = sound_so format q (no_facts (kept ++ fresh)) (absent_more c.absent c.ended (no_facts (kept ++ fresh))) refl refl
+        sound = sound_so format q (no_facts (kept ++ fresh)) (absent_more c.absent c.ready c.ended (no_facts (kept ++ fresh))) refl refl
             (none_sound format q (kept ++ fresh));
         answer = c.answer;
       },
@@ -150,12 +150,12 @@ module _ (format : Format) (q : FetchAsked) (a : AdmissionFacts) (t : FetchFacts
     (sound : AreSoundFacts format q t) where
   front_of : Completes q t front → IsFrontBy format (fetch q) (of_fetch a t) front
   front_of c = record {
-    later = of_fetch a (absent_more c.absent c.ended t);
+    later = of_fetch a (absent_more c.absent c.ready c.ended t);
     grows = (
       record { wants = no_more a.wants; found = no_more a.found },
       record {
         has = (c.absent, refl);
-        ready = λ is. is;
+        ready = c.stays;
         boundary = no_more t.boundary;
         boundary_ended = c.grows;
         wanted = no_more t.wanted;
@@ -164,7 +164,7 @@ module _ (format : Format) (q : FetchAsked) (a : AdmissionFacts) (t : FetchFacts
       },
     );
     more = c.more;
-    answer = (admitted, record { sound = sound_so format q t (absent_more c.absent c.ended t) refl refl sound; answer = c.answer });
+    answer = (admitted, record { sound = sound_so format q t (absent_more c.absent c.ready c.ended t) refl refl sound; answer = c.answer });
   }
 
   fetch_front : (place : Place) → (place ≡ AtLoss → ⊥) → StandsAt place q t front → IsFrontBy format (fetch q) (of_fetch a t) front
@@ -224,6 +224,14 @@ record CompletesSizes (q : ObjectInfoAsked) (sizes : List (Option ℕ)) (given :
   more : List Pkt
   answer : IsSizesAnswerOf q (sizes ++ unknown) (given ++ more)
 
+-- the next size and its line, taken out of the front
+size_first : (q : ObjectInfoAsked) (sizes : List (Option ℕ)) (given : List Pkt) (size : Option ℕ) (line : Pkt) (unknown : List (Option ℕ))
+    (more : List Pkt) → IsSizesAnswerOf q ((sizes ++ size ∷ []) ++ unknown) ((given ++ line ∷ []) ++ more)
+    → IsSizesAnswerOf q (sizes ++ (size ∷ unknown)) (given ++ (line ∷ more))
+size_first q sizes given size line unknown more h =
+    subst (λ (ss : List (Option ℕ)). IsSizesAnswerOf q ss (given ++ (line ∷ more))) (append_assoc sizes (size ∷ []) unknown)
+    (subst (IsSizesAnswerOf q ((sizes ++ size ∷ []) ++ unknown)) (append_assoc given (line ∷ []) more) h)
+
 -- so many objects are left
 from_object : (left at : ℕ) (q : ObjectInfoAsked) (sizes : List (Option ℕ)) (given : List Pkt) → at + left ≡ length q.oids → AtObject at q sizes given
     → CompletesSizes q sizes given
@@ -243,8 +251,7 @@ from_object (suc left) at q sizes given count h =
     record {
       unknown = None ∷ c.unknown;
       more = line ∷ c.more;
-      answer = subst (λ (ss : List (Option ℕ)). IsSizesAnswerOf q ss (given ++ (line ∷ c.more))) (append_assoc sizes (None ∷ []) c.unknown)
-          (subst (IsSizesAnswerOf q ((sizes ++ None ∷ []) ++ c.unknown)) (append_assoc given (line ∷ []) c.more) c.answer);
+      answer = size_first q sizes given None line c.unknown c.more c.answer;
     }
 
 sizes_complete : (place : SizesPlace) (q : ObjectInfoAsked) (sizes : List (Option ℕ)) (given : List Pkt) → StandsAtSizes place q sizes given
@@ -280,7 +287,7 @@ whole_front format (fetch q) (of_fetch a t) front h = record {
     record { wants = no_more a.wants; found = no_more a.found },
     record {
       has = no_more t.has;
-      ready = λ is. is;
+      ready = λ ready is. is;
       boundary = no_more t.boundary;
       boundary_ended = λ is. is;
       wanted = no_more t.wanted;

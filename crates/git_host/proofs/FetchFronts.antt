@@ -1,6 +1,7 @@
 -- What was sent of an answer to a fetch is the front of a whole one.
 use Rattle.std.proofs.Common.{arith, ◌≡◌, ℕ, zero, suc, ◌+◌, ◌-◌, ◌≤◌, Bool, true, false, List, [], ◌∷◌, ◌++◌, length, map}
-use Rattle.std.proofs.Common.{refl, sym, ap, append_assoc, append-nil, length-append, subst}
+use Rattle.std.proofs.Common.{Option, Some, None, refl, sym, ap, ◌∙◌, append_assoc, append-nil, length-append, subst}
+use Rattle.std.specs.Option.{ForSome}
 use Rattle.git_names.specs.ObjectName.{ObjectName}
 use Rattle.git_pkt.specs.Packets.{Pkt, delim}
 use Rattle.git_msg.specs.declared.Boundary.{Boundary}
@@ -10,7 +11,7 @@ use Rattle.git_server.specs.FetchAnswers.{ack_packet, nak_or_acks, ready_lines, 
 use Rattle.git_host.specs.FetchFacts.{FetchFacts, IsFetchAnswerOf, acknowledgments, before_pack, opening, picked, wanted_refs}
 use Rattle.git_host.specs.FetchPlaces.{AtHave, AtPack, AtPackHeader, AtReady, AtShallow}
 use Rattle.git_host.specs.FetchPlaces.{AtWanted, AtWantedHeader, StandsAt, after_boundary, after_haves, shallow_so_far, with_boundary_end}
-use Rattle.git_host.specs.FetchPlaces.{with_have}
+use Rattle.git_host.specs.FetchPlaces.{with_have, with_ready}
 use Rattle.git_host.specs.declared.fetch_answer.Place.{Place}
 use Rattle.git_host.specs.declared.fetch_answer.Place.TheVariants.{Header, Have, Nak, Ready, Delimiter, Shallow, ShallowLine, WantedHeader, Wanted, WantedEnd}
 use Rattle.git_host.specs.declared.fetch_answer.Place.TheVariants.{PackHeader, Pack, Whole as AtEnd, Broken as AtLoss}
@@ -18,24 +19,28 @@ use Rattle.git_host.proofs.FetchMoves.{SoFar, after_all_wanted, after_delimiter,
 use Rattle.git_host.proofs.FetchMoves.{after_not_common, after_pack, after_pack_header, after_shallow_line, after_unready, after_wanted_header}
 use Rattle.git_host.proofs.FetchMoves.{all_reported, item_there, opening_is, so_far_ends}
 
--- the store has none of the objects that were not reported on yet, and its boundary has ended or not
-abbrev pub absent_more : List Bool → Bool → FetchFacts → FetchFacts
-absent_more absent ended t = record t { has = t.has ++ absent; boundary_ended = ended }
+-- the store has none of the objects that were not reported on yet, it is ready or not, and its boundary has ended or not
+abbrev pub absent_more : List Bool → Option Bool → Bool → FetchFacts → FetchFacts
+absent_more absent ready ended t = record t { has = t.has ++ absent; ready = ready; boundary_ended = ended }
 
 -- an answer that begins so
 pub record Completes (q : FetchAsked) (t : FetchFacts) (given : List Pkt) : Type 0 where
   pub absent : List Bool
+  pub ready : Option Bool
   pub ended : Bool
   pub more : List Pkt
+  pub stays : ForSome t.ready (λ r. ready ≡ Some r)
   pub grows : t.boundary_ended ≡ true → ended ≡ true
-  pub answer : IsFetchAnswerOf whole q (absent_more absent ended t) (given ++ more)
+  pub answer : IsFetchAnswerOf whole q (absent_more absent ready ended t) (given ++ more)
 
 module _ (q : FetchAsked) (t : FetchFacts) (given : List Pkt) where
   completed : IsFetchAnswerOf whole q t given → Completes q t given
   completed h = record {
     absent = [];
+    ready = t.ready;
     ended = t.boundary_ended;
     more = [];
+    stays = λ r is. is;
     grows = λ is. is;
     answer = subst (λ (bs : List Bool). IsFetchAnswerOf whole q (record t { has = bs }) (given ++ [])) (sym (append-nil t.has))
         (subst (IsFetchAnswerOf whole q t) (sym (append-nil given)) h);
@@ -45,26 +50,50 @@ module _ (q : FetchAsked) (t : FetchFacts) (given : List Pkt) where
   by_packet : (packet : Pkt) → Completes q t (given ++ packet ∷ []) → Completes q t given
   by_packet packet h = record {
     absent = h.absent;
+    ready = h.ready;
     ended = h.ended;
     more = packet ∷ h.more;
+    stays = h.stays;
     grows = h.grows;
-    answer = subst (IsFetchAnswerOf whole q (absent_more h.absent h.ended t)) (append_assoc given (packet ∷ []) h.more) h.answer;
+    answer = subst (IsFetchAnswerOf whole q (absent_more h.absent h.ready h.ended t)) (append_assoc given (packet ∷ []) h.more) h.answer;
   }
 
   -- or by one report more
   by_absent : Completes q (with_have false t) given → Completes q t given
   by_absent h = record {
     absent = false ∷ h.absent;
+    ready = h.ready;
     ended = h.ended;
     more = h.more;
+    stays = h.stays;
     grows = h.grows;
-    answer = subst (λ (bs : List Bool). IsFetchAnswerOf whole q (record t { has = bs; boundary_ended = h.ended }) (given ++ h.more))
+    answer = subst (λ (bs : List Bool). IsFetchAnswerOf whole q (record t { has = bs; ready = h.ready; boundary_ended = h.ended }) (given ++ h.more))
         (append_assoc t.has (false ∷ []) h.absent) h.answer;
+  }
+
+  -- or by the report that the store is not ready
+  by_unready : t.ready ≡ None → Completes q (with_ready false t) given → Completes q t given
+  by_unready unreported h = record {
+    absent = h.absent;
+    ready = h.ready;
+    ended = h.ended;
+    more = h.more;
+    stays = λ r is. absurd (let both : None ≡ Some r = sym unreported ∙ is in cc);
+    grows = h.grows;
+    answer = h.answer;
   }
 
   -- or by the end of the boundary
   by_end : Completes q (with_boundary_end t) given → Completes q t given
-  by_end h = record { absent = h.absent; ended = h.ended; more = h.more; grows = λ is. h.grows refl; answer = h.answer }
+  by_end h = record {
+    absent = h.absent;
+    ready = h.ready;
+    ended = h.ended;
+    more = h.more;
+    stays = h.stays;
+    grows = λ is. h.grows refl;
+    answer = h.answer;
+  }
 
 module _ (q : FetchAsked) (t : FetchFacts) (all : length t.wanted ≡ length q.want_refs) where
   from_pack : (given : List Pkt) → AtPack q t given → Completes q t given
@@ -101,7 +130,8 @@ module _ (q : FetchAsked) (t : FetchFacts) (all : length t.wanted ≡ length q.w
   from_shallow false given h = by_end q t given (from_refs (is_empty q.want_refs) q (with_boundary_end t) all given (after_no_line q t given h))
 
   from_ready : (given : List Pkt) → AtReady q t given → Completes q t given
-  from_ready given h = by_packet q t given _ (completed q t _ (after_unready q t given h))
+  from_ready given h =
+      by_unready q t given h.unreported (by_packet q (with_ready false t) given _ (completed q (with_ready false t) _ (after_unready q t given h)))
 
   from_haves : (any : Bool) (given : List Pkt) → StandsAt (after_haves any) q t given → Completes q t given
   from_haves true given h = from_ready given h
@@ -118,7 +148,7 @@ from_have (suc left) next any q t given all count h =
       more = omega (arith, count);
       some = h.some;
       given_is = h.given_is;
-      unready = h.unready;
+      unreported = h.unreported;
       after = h.after;
     } in
     by_absent q t given (from_have left (next + 1) any q (with_have false t) given all (omega (arith, count)) (after_not_common next any q t given at))
@@ -130,7 +160,7 @@ so_far_at next any q t given h = record {
   within = omega (arith, h.more);
   some = h.some;
   given_is = h.given_is;
-  unready = h.unready;
+  unreported = h.unreported;
   after = h.after;
 }
 

@@ -1,6 +1,6 @@
 -- From one place of an answer to the next.
-use Rattle.std.proofs.Common.{arith, ◌≡◌, ℕ, ◌+◌, ◌<◌, ◌≤◌, Bool, true, false, not, ◌&&◌, All, List, [], ◌∷◌, ◌++◌, length}
-use Rattle.std.proofs.Common.{map, slice_get, take, unwrap_or, Option, Some, if◌then◌else◌, codes, refl}
+use Rattle.std.proofs.Common.{arith, ◌≡◌, ℕ, ◌+◌, ◌<◌, ◌≤◌, Bool, true, false, not, All, List, [], ◌∷◌, ◌++◌, length}
+use Rattle.std.proofs.Common.{map, slice_get, take, unwrap_or, Option, Some, None, if◌then◌else◌, codes, refl}
 use Rattle.std.proofs.Common.{sym, ap, ◌∙◌, append_assoc, append-nil, length-append, subst, inl, inr}
 use Rattle.std.proofs.lemmas.List.{length-take-le, take_all, take_more}
 use Rattle.std.specs.Ordering.{is_eq}
@@ -24,8 +24,8 @@ use Rattle.git_server.specs.Objects.{object_cmp}
 use Rattle.git_server.specs.Repository.{IsUnshallowOf}
 use Rattle.git_server.proofs.NameOrder.{is_same}
 use Rattle.git_host.specs.FetchFacts.{AreSoundFacts, FetchFacts, HasPack, IsSoundLine, may_have}
-use Rattle.git_host.specs.FetchFacts.{IsFetchAnswerWhere, IsFetchAnswerOf, acknowledgments, before_pack, is_ready}
-use Rattle.git_host.specs.FetchFacts.{last_packet, opening, picked, no_facts, wanted_lines, wanted_refs}
+use Rattle.git_host.specs.FetchFacts.{IsFetchAnswerWhere, IsFetchAnswerOf, acknowledgments, before_pack, last_packet, opening}
+use Rattle.git_host.specs.FetchFacts.{picked, no_facts, readiness, wanted_lines, wanted_refs}
 use Rattle.git_host.specs.FetchPlaces.{AtDelimiter, AtHave, AtHeader, AtNak, AtPack, AtPackHeader}
 use Rattle.git_host.specs.FetchPlaces.{AtReady, AtShallow, AtShallowLine, AtWanted, AtWantedHeader}
 use Rattle.git_host.specs.FetchPlaces.{Holds, IsOpened, NoPack, NothingAfter, StandsAt, WhereNegotiating}
@@ -43,21 +43,10 @@ some_items : {X : Type 0} (xs : List X) → is_empty xs ≡ false → 0 < length
 some_items [] e = absurd (cc)
 some_items (x ∷ xs) e = omega arith
 
-and_false : (b : Bool) → (b && false) ≡ false
-and_false true = refl
-and_false false = refl
-
-and_true : (b : Bool) → b ≡ false → (not b && true) ≡ true
-and_true true e = absurd (cc)
-and_true false e = refl
-
-alone_unready : (b ready : Bool) → b ≡ true → (not b && ready) ≡ false
-alone_unready true ready e = refl
-alone_unready false ready e = absurd (cc)
-
-unready_and : (b ready : Bool) → ready ≡ false → (b && ready) ≡ false
-unready_and b true e = absurd (cc)
-unready_and b false e = and_false b
+-- whether the request only negotiates or not, no pack follows where the store is not ready
+none_follows : (b : Bool) → (if b then Some false else Some false) ≡ Some false
+none_follows true = refl
+none_follows false = refl
 
 some_acks : (ids : List ObjectName) → is_empty ids ≡ false → nak_or_acks ids ≡ map ack_packet ids
 some_acks [] e = absurd (cc)
@@ -88,13 +77,13 @@ module _ (q : FetchAsked) (t : FetchFacts) where
   opening_none : negotiates q ≡ false → opening q t ≡ []
   opening_none e = ap (λ (b : Bool). if b then acknowledgments q t ++ ready_lines else []) e
 
-  opened_by : negotiates q ≡ true → length t.has ≡ length q.haves → is_ready q t ≡ true → IsOpened q t
-  opened_by e all ready = subst (λ (b : Bool). WhereNegotiating b ((length t.has ≡ length q.haves) × (is_ready q t ≡ true))) (sym e) (all, ready)
+  opened_by : negotiates q ≡ true → length t.has ≡ length q.haves → readiness q t ≡ Some true → IsOpened q t
+  opened_by e all ready = subst (λ (b : Bool). WhereNegotiating b ((length t.has ≡ length q.haves) × (readiness q t ≡ Some true))) (sym e) (all, ready)
 
   -- where the pack follows, the answer is that of the facts
-  answer_by : (b : Bool) (manner : Manner) (given : List Pkt) → WhereNegotiating b ((length t.has ≡ length q.haves) × (is_ready q t ≡ true))
-      → HasPack manner q t given → IsFetchAnswerWhere b (is_ready q t) manner q t given
-  answer_by true manner given opened h = subst (λ (r : Bool). IsFetchAnswerWhere true r manner q t given) (sym opened.1) (opened.0, h)
+  answer_by : (b : Bool) (manner : Manner) (given : List Pkt) → WhereNegotiating b ((length t.has ≡ length q.haves) × (readiness q t ≡ Some true))
+      → HasPack manner q t given → IsFetchAnswerWhere b (readiness q t) manner q t given
+  answer_by true manner given opened h = subst (λ (r : Option Bool). IsFetchAnswerWhere true r manner q t given) (sym opened.1) (opened.0, h)
   answer_by false manner given opened h = h
 
 -- ---- the acknowledgments
@@ -106,7 +95,7 @@ pub record SoFar (next : ℕ) (any : Bool) (q : FetchAsked) (t : FetchFacts) (gi
   pub within : next ≤ length q.haves
   pub some : is_empty (picked t.has q.haves) ≡ not any
   pub given_is : given ≡ acks_header ∷ map ack_packet (picked t.has q.haves)
-  pub unready : t.ready ≡ false
+  pub unreported : t.ready ≡ None
   pub after : NothingAfter t
 
 pub all_reported : (next : ℕ) (any : Bool) (q : FetchAsked) (t : FetchFacts) (given : List Pkt) → SoFar next any q t given → length q.haves ≤ next
@@ -115,7 +104,7 @@ all_reported next true q t given h over = record {
   negotiates = h.negotiates;
   all = omega (arith, h.so_far, h.within, over);
   given_is = h.given_is ∙ ap (λ (l : List Pkt). acks_header ∷ l) (sym (some_acks (picked t.has q.haves) h.some));
-  unready = h.unready;
+  unreported = h.unreported;
   after = h.after;
 }
 all_reported next false q t given h over =
@@ -125,7 +114,7 @@ all_reported next false q t given h over =
       all = omega (arith, h.so_far, h.within, over);
       none = none;
       given_is = h.given_is ∙ ap (λ (ids : List ObjectName). acks_header ∷ map ack_packet ids) none;
-      unready = h.unready;
+      unreported = h.unreported;
       after = h.after;
     }
 
@@ -141,7 +130,7 @@ have_place place next any q t given more over h =
         more = within;
         some = h.some;
         given_is = h.given_is;
-        unready = h.unready;
+        unreported = h.unreported;
         after = h.after;
       })
       | inr (most, is) ↦ subst (λ (p : Place). StandsAt p q t given) (sym (over most)) (all_reported next any q t given h most)
@@ -155,7 +144,7 @@ after_header q t given h = record {
   some = ap (λ (bs : List Bool). is_empty (picked bs q.haves)) h.none;
   given_is = ap (λ (l : List Pkt). l ++ acks_header ∷ []) h.given_is
       ∙ ap (λ (bs : List Bool). acks_header ∷ map ack_packet (picked bs q.haves)) (sym h.none);
-  unready = h.unready;
+  unreported = h.unreported;
   after = h.after;
 }
 
@@ -171,7 +160,7 @@ after_common next any q t given id h here =
       some = ap is_empty one ∙ not_empty_more (picked t.has q.haves) id;
       given_is = ap (λ (l : List Pkt). l ++ ack_packet id ∷ []) h.given_is
           ∙ ap (λ (l : List Pkt). acks_header ∷ l) (sym (map_more ack_packet (picked t.has q.haves) id) ∙ ap (map ack_packet) (sym one));
-      unready = h.unready;
+      unreported = h.unreported;
       after = record { boundary = h.after.boundary; pack = h.after.pack; progress = h.after.progress };
     }
 
@@ -185,7 +174,7 @@ after_not_common next any q t given h =
       within = omega (arith, h.more);
       some = ap is_empty none ∙ h.some;
       given_is = h.given_is ∙ ap (λ (ids : List ObjectName). acks_header ∷ map ack_packet ids) (sym none);
-      unready = h.unready;
+      unreported = h.unreported;
       after = record { boundary = h.after.boundary; pack = h.after.pack; progress = h.after.progress };
     }
 
@@ -204,30 +193,32 @@ after_nak q t given h = record {
   all = h.all;
   given_is = ap (λ (l : List Pkt). l ++ text_line (codes "NAK") ∷ []) h.given_is
       ∙ ap (λ (ids : List ObjectName). acks_header ∷ nak_or_acks ids) (sym h.none);
-  unready = h.unready;
+  unreported = h.unreported;
   after = h.after;
 }
 
 -- no pack follows
-no_pack_follows : (q : FetchAsked) (t : FetchFacts) (given : List Pkt) → AtReady q t given → is_ready q t ≡ false
-    → IsFetchAnswerOf whole q t (given ++ flush ∷ [])
-no_pack_follows q t given h unready =
-    subst (λ (b : Bool). IsFetchAnswerWhere b (is_ready q t) whole q t (given ++ flush ∷ [])) (sym h.negotiates)
-    (subst (λ (r : Bool). IsFetchAnswerWhere true r whole q t (given ++ flush ∷ [])) (sym unready) (h.all, ap (λ (l : List Pkt). l ++ flush ∷ []) h.given_is))
+no_pack_follows : (q : FetchAsked) (t : FetchFacts) (given : List Pkt) → negotiates q ≡ true → length t.has ≡ length q.haves → given ≡ acknowledgments q t
+    → readiness q t ≡ Some false → IsFetchAnswerOf whole q t (given ++ flush ∷ [])
+no_pack_follows q t given asks all is unready =
+    subst (λ (b : Bool). IsFetchAnswerWhere b (readiness q t) whole q t (given ++ flush ∷ [])) (sym asks)
+    (subst (λ (r : Option Bool). IsFetchAnswerWhere true r whole q t (given ++ flush ∷ [])) (sym unready) (all, ap (λ (l : List Pkt). l ++ flush ∷ []) is))
 
 pub after_alone : (q : FetchAsked) (t : FetchFacts) (given : List Pkt) → AtReady q t given → only_negotiates q ≡ true
     → IsFetchAnswerOf whole q t (given ++ flush ∷ [])
-after_alone q t given h alone = no_pack_follows q t given h (alone_unready (only_negotiates q) t.ready alone)
+after_alone q t given h alone =
+    no_pack_follows q t given h.negotiates h.all h.given_is (ap (λ (b : Bool). if b then Some false else t.ready) alone)
 
-pub after_unready : (q : FetchAsked) (t : FetchFacts) (given : List Pkt) → AtReady q t given → IsFetchAnswerOf whole q t (given ++ flush ∷ [])
-after_unready q t given h = no_pack_follows q t given h (unready_and (not (only_negotiates q)) t.ready h.unready)
+pub after_unready : (q : FetchAsked) (t : FetchFacts) (given : List Pkt) → AtReady q t given
+    → IsFetchAnswerOf whole q (with_ready false t) (given ++ flush ∷ [])
+after_unready q t given h = no_pack_follows q (with_ready false t) given h.negotiates h.all h.given_is (none_follows (only_negotiates q))
 
 pub after_ready : (q : FetchAsked) (t : FetchFacts) (given : List Pkt) → AtReady q t given → only_negotiates q ≡ false
-    → AtDelimiter q (with_ready t) (given ++ text_line (codes "ready") ∷ [])
+    → AtDelimiter q (with_ready true t) (given ++ text_line (codes "ready") ∷ [])
 after_ready q t given h other = record {
   negotiates = h.negotiates;
   all = h.all;
-  is_ready = and_true (only_negotiates q) other;
+  is_ready = ap (λ (b : Bool). if b then Some false else Some true) other;
   given_is = ap (λ (l : List Pkt). l ++ text_line (codes "ready") ∷ []) h.given_is;
   after = record { boundary = h.after.boundary; pack = h.after.pack; progress = h.after.progress };
 }
@@ -437,11 +428,11 @@ after_pack manner q t given all h = answer_by q t (negotiates q) manner (given +
 -- ---- the beginning
 
 begins_by : (b : Bool) (q : FetchAsked) (wanted : List ObjectName) → negotiates q ≡ b → StandsAt (place_by b) q (no_facts wanted) []
-begins_by true q wanted e = record { negotiates = e; none = refl; given_is = refl; unready = refl; after = none_reported wanted }
+begins_by true q wanted e = record { negotiates = e; none = refl; given_is = refl; unreported = refl; after = none_reported wanted }
 begins_by false q wanted e =
     let t = no_facts wanted in
     record {
-      opened = subst (λ (b : Bool). WhereNegotiating b ((length t.has ≡ length q.haves) × (is_ready q t ≡ true))) (sym e) tt;
+      opened = subst (λ (b : Bool). WhereNegotiating b ((length t.has ≡ length q.haves) × (readiness q t ≡ Some true))) (sym e) tt;
       some = refl;
       given_is = sym (ap (λ (l : List Pkt). l ++ []) (opening_none q t e));
       no_pack = record { pack = refl; progress = refl };

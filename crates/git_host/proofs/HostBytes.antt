@@ -24,7 +24,6 @@ use Rattle.git_msg.specs.declared.streams.Stage.{Stage}
 use Rattle.git_msg.specs.declared.streams.Stage.TheVariants.{Between, Within, Stopped, Failed}
 use Rattle.git_msg.specs.declared.offers.Offer.{Offer}
 use Rattle.git_msg.proofs.StreamEnds.{all_whole}
-use Rattle.git_server.specs.Packs.{whole}
 use Rattle.git_server.specs.Answers.{AllFit, refusal_by, spelled}
 use Rattle.git_server.specs.declared.outcome.Outcome.TheVariants.{Flush, Refused}
 use Rattle.git_host.specs.HostSessions.{AllAnswered, Facts, HostSetting, IsHosted, ShowsWhere, StopsBy, nothing_for}

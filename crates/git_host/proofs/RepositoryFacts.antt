@@ -1,6 +1,6 @@
 -- What is sent for what was reported is an answer of each repository that answers so.
 use Rattle.std.proofs.Common.{arith, ◌≡◌, ℕ, ◌<◌, Bool, true, false, List, [], ◌∷◌, ◌++◌}
-use Rattle.std.proofs.Common.{length, map, codes, if◌then◌else◌, refl, sym, ap, ◌∙◌, append_assoc, subst, inl, inr}
+use Rattle.std.proofs.Common.{length, map, codes, if◌then◌else◌, unwrap_or, Option, Some, refl, sym, ap, ◌∙◌, append_assoc, subst, inl, inr}
 use Rattle.std.specs.List.{filter, filter_map}
 use Rattle.git_names.specs.ObjectName.{ObjectName}
 use Rattle.git_pkt.specs.Packets.{Pkt}
@@ -16,7 +16,7 @@ use Rattle.git_server.specs.FetchAnswers.{EndsWithBoundary, IsFetchAnswer, IsFet
 use Rattle.git_server.specs.FetchAnswers.{negotiates, ready_lines, section, shallow_info, wanted_packet}
 use Rattle.git_server.specs.FetchAnswers.{acknowledgments as acknowledgments_of, is_ready_for, nak_or_acks, wanted_refs as wanted_refs_of}
 use Rattle.git_host.specs.FetchFacts.{AreParts, FetchFacts, HasPack, IsFetchAnswerWhere, IsFetchAnswerOf, acknowledgments}
-use Rattle.git_host.specs.FetchFacts.{is_ready, last_packet, opening, picked, sends_pack, wanted_lines, wanted_refs}
+use Rattle.git_host.specs.FetchFacts.{last_packet, opening, picked, readiness, sends_pack, wanted_lines, wanted_refs}
 use Rattle.git_host.specs.RepositoryFacts.{AreFound, IsPackOf, AreOfRepository}
 
 pub picked_has : (has : ObjectName → Bool) (ids : List ObjectName) → picked (map has ids) ids ≡ filter has ids
@@ -73,8 +73,8 @@ module _ (manner : Manner) (repo : Repository) (q : FetchAsked) (t : FetchFacts)
       ap (λ (bs : List Bool). text_line (codes "acknowledgments") ∷ nak_or_acks (picked bs q.haves)) (reports.has asks)
       ∙ ap (λ (ids : List ObjectName). text_line (codes "acknowledgments") ∷ nak_or_acks ids) (picked_has repo.has q.haves)
 
-  sends_by : (b : Bool) → negotiates q ≡ b → sends_pack q t ≡ (if b then is_ready q t else true)
-  sends_by b e = ap (λ (x : Bool). if x then is_ready q t else true) e
+  sends_by : (b : Bool) → negotiates q ≡ b → sends_pack q t ≡ (if b then unwrap_or (readiness q t) false else true)
+  sends_by b e = ap (λ (x : Bool). if x then unwrap_or (readiness q t) false else true) e
 
   -- from the boundary on
   after : sends_pack q t ≡ true → (parts : List Pkt) → AreParts t.pack t.progress parts
@@ -110,12 +110,12 @@ module _ (manner : Manner) (repo : Repository) (q : FetchAsked) (t : FetchFacts)
   opens_by : (b : Bool) → negotiates q ≡ b → opening q t ≡ (if b then acknowledgments q t ++ ready_lines else [])
   opens_by b e = ap (λ (x : Bool). if x then acknowledgments q t ++ ready_lines else []) e
 
-  answers_by : (b r : Bool) (packets : List Pkt) → negotiates q ≡ b → is_ready_for repo q ≡ r → IsFetchAnswerWhere b r manner q t packets
+  answers_by : (b r : Bool) (packets : List Pkt) → negotiates q ≡ b → is_ready_for repo q ≡ r → IsFetchAnswerWhere b (Some r) manner q t packets
       → IsFetchAnswerBy b manner repo q packets
   answers_by true true packets e ready h =
       subst (λ (x : Bool). IsNegotiated x (acknowledgments_of repo q) manner repo q packets) (sym ready) (record {
         others = shallow_info t.boundary ++ (wanted_refs t.wanted q.want_refs ++ (packfile_header ∷ (h.1.parts ++ last_packet manner ∷ [])));
-        holds = after (sends_by true e ∙ reports.ready e ∙ ready) h.1.parts h.1.are_parts;
+        holds = after (sends_by true e ∙ ap (λ (o : Option Bool). unwrap_or o false) (reports.ready e) ∙ ready) h.1.parts h.1.are_parts;
         packets_are = with_pack (acknowledgments_of repo q ++ ready_lines) packets h.1
             (opens_by true e ∙ ap (λ (l : List Pkt). l ++ ready_lines) (acknowledged e));
       })
@@ -127,9 +127,9 @@ module _ (manner : Manner) (repo : Repository) (q : FetchAsked) (t : FetchFacts)
       (after (sends_by false e) h.parts h.are_parts)
 
   -- whether the pack follows is what the repository answers
-  as_ready : (b : Bool) (packets : List Pkt) → negotiates q ≡ b → IsFetchAnswerWhere b (is_ready q t) manner q t packets
-      → IsFetchAnswerWhere b (is_ready_for repo q) manner q t packets
-  as_ready true packets e h = subst (λ (r : Bool). IsFetchAnswerWhere true r manner q t packets) (reports.ready e) h
+  as_ready : (b : Bool) (packets : List Pkt) → negotiates q ≡ b → IsFetchAnswerWhere b (readiness q t) manner q t packets
+      → IsFetchAnswerWhere b (Some (is_ready_for repo q)) manner q t packets
+  as_ready true packets e h = subst (λ (r : Option Bool). IsFetchAnswerWhere true r manner q t packets) (reports.ready e) h
   as_ready false packets e h = h
 
   pub reported_answers : (packets : List Pkt) → IsFetchAnswerOf manner q t packets → IsFetchAnswer manner repo q packets

@@ -1,5 +1,5 @@
 -- What a store reports for one fetch, and the answers that this makes.
-use Rattle.std.specs.Prelude.{◌≡◌, ◌⊎◌, ℕ, ◌<◌, Bool, true, false, not, ◌&&◌, if◌then◌else◌, All, List, [], ◌∷◌, ◌++◌, length, codes}
+use Rattle.std.specs.Prelude.{◌≡◌, ◌⊎◌, ℕ, ◌<◌, Bool, true, false, if◌then◌else◌, All, List, [], ◌∷◌, ◌++◌, length, codes, Option, Some, None, unwrap_or}
 use Rattle.std.specs.List.{list_any}
 use Rattle.std.specs.Ordering.{is_eq}
 use Rattle.git_names.specs.ObjectName.{ObjectName}
@@ -18,12 +18,12 @@ use Rattle.git_server.specs.FetchAnswers.{IsFlushed, nak_or_acks, negotiates, re
 use Rattle.git_server.specs.Objects.{object_cmp, object_of}
 use Rattle.git_server.specs.Repository.{IsUnshallowOf}
 
--- what a store reported for one fetch: whether it has each object that the client has, by place; whether it is ready to send a pack; the
--- shallow boundary, and whether that is all of it; the object of each wanted reference, by place; the bytes of the pack, and those of the
--- progress
+-- what a store reported for one fetch: whether it has each object that the client has, by place; whether it is ready to send a pack, if it was
+-- asked that; the shallow boundary, and whether that is all of it; the object of each wanted reference, by place; the bytes of the pack, and those
+-- of the progress
 pub record FetchFacts : Type 0 where
   pub has : List Bool
-  pub ready : Bool
+  pub ready : Option Bool
   pub boundary : List Boundary
   pub boundary_ended : Bool
   pub wanted : List ObjectName
@@ -33,7 +33,7 @@ pub record FetchFacts : Type 0 where
 -- nothing but the objects of the wanted references
 abbrev pub no_facts : List ObjectName → FetchFacts
 no_facts wanted =
-    record { has = []; ready = false; boundary = []; boundary_ended = false; wanted = wanted; pack = []; progress = [] }
+    record { has = []; ready = None; boundary = []; boundary_ended = false; wanted = wanted; pack = []; progress = [] }
 
 -- a sound repository of the format may have the line in the shallow boundary for the request
 pub record IsSoundLine (format : Format) (q : FetchAsked) (line : Boundary) : Type 0 where
@@ -64,13 +64,13 @@ wanted_lines _ _ = []
 abbrev pub acknowledgments : FetchAsked → FetchFacts → List Pkt
 acknowledgments q t = text_line (codes "acknowledgments") ∷ nak_or_acks (picked t.has q.haves)
 
--- whether the pack follows where the request negotiates
-abbrev pub is_ready : FetchAsked → FetchFacts → Bool
-is_ready q t = not (only_negotiates q) && t.ready
+-- whether the pack follows where the request negotiates, if that was reported; none does where the request only negotiates
+abbrev pub readiness : FetchAsked → FetchFacts → Option Bool
+readiness q t = if only_negotiates q then Some false else t.ready
 
 -- whether the pack follows
 abbrev pub sends_pack : FetchAsked → FetchFacts → Bool
-sends_pack q t = if negotiates q then is_ready q t else true
+sends_pack q t = if negotiates q then unwrap_or (readiness q t) false else true
 
 -- what comes before the section of the shallow boundary
 abbrev pub opening : FetchAsked → FetchFacts → List Pkt
@@ -114,15 +114,16 @@ pub record HasPack (manner : Manner) (q : FetchAsked) (t : FetchFacts) (packets 
   pub are_parts : AreParts t.pack t.progress parts
   pub packets_are : packets ≡ before_pack q t ++ (packfile_header ∷ (parts ++ last_packet manner ∷ []))
 
--- where the request negotiates, each object that the client has was reported on, and the pack follows only if the store is ready
-abbrev pub IsFetchAnswerWhere : Bool → Bool → Manner → FetchAsked → FetchFacts → List Pkt → Type 0
-IsFetchAnswerWhere true true manner q t packets = (length t.has ≡ length q.haves) × HasPack manner q t packets
-IsFetchAnswerWhere true false manner q t packets = (length t.has ≡ length q.haves) × IsFlushed manner (acknowledgments q t) packets
+-- where the request negotiates, each object that the client has was reported on, and whether the store is ready: the pack follows only if it is
+abbrev pub IsFetchAnswerWhere : Bool → Option Bool → Manner → FetchAsked → FetchFacts → List Pkt → Type 0
+IsFetchAnswerWhere true (Some true) manner q t packets = (length t.has ≡ length q.haves) × HasPack manner q t packets
+IsFetchAnswerWhere true (Some false) manner q t packets = (length t.has ≡ length q.haves) × IsFlushed manner (acknowledgments q t) packets
+IsFetchAnswerWhere true None manner q t packets = ⊥
 IsFetchAnswerWhere false ready manner q t packets = HasPack manner q t packets
 
 -- the packets are the answer to the fetch by what was reported
 abbrev pub IsFetchAnswerOf : Manner → FetchAsked → FetchFacts → List Pkt → Type 0
-IsFetchAnswerOf manner q t packets = IsFetchAnswerWhere (negotiates q) (is_ready q t) manner q t packets
+IsFetchAnswerOf manner q t packets = IsFetchAnswerWhere (negotiates q) (readiness q t) manner q t packets
 
 -- the packets are the answer to the fetch by what was reported, which a sound repository of the format may answer
 pub record IsSoundFetchAnswer (manner : Manner) (format : Format) (q : FetchAsked) (t : FetchFacts) (packets : List Pkt) : Type 0 where

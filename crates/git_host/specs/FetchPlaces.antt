@@ -1,5 +1,5 @@
 -- How far an answer to `fetch` has come, by what was reported and what was sent.
-use Rattle.std.specs.Prelude.{◌≡◌, ◌≢◌, ℕ, ◌<◌, ◌≤◌, Bool, true, false, not, List, [], ◌∷◌, ◌++◌, length, map, take, codes}
+use Rattle.std.specs.Prelude.{◌≡◌, ◌≢◌, ℕ, ◌<◌, ◌≤◌, Bool, true, false, not, List, [], ◌∷◌, ◌++◌, length, map, take, codes, Some, None}
 use Rattle.git_names.specs.declared.object_format.Format.{Format}
 use Rattle.git_pkt.specs.Packets.{Pkt, body_of, longest_payload, spelling_of}
 use Rattle.git_msg.specs.declared.Boundary.{Boundary}
@@ -10,8 +10,8 @@ use Rattle.git_server.specs.Packs.{whole, broken, packfile_header}
 use Rattle.git_server.specs.FetchAnswers.{ack_packet, boundary_packet, negotiates, shallow_info}
 use Rattle.git_server.specs.Objects.{object_of}
 use Rattle.git_server.specs.Repository.{IsUnshallowOf}
-use Rattle.git_host.specs.FetchFacts.{AreParts, AreSoundFacts, FetchFacts, IsFetchAnswerOf, IsSoundFetchAnswer, acknowledgments, before_pack, is_ready}
-use Rattle.git_host.specs.FetchFacts.{opening, picked, wanted_lines}
+use Rattle.git_host.specs.FetchFacts.{AreParts, AreSoundFacts, FetchFacts, IsFetchAnswerOf, IsSoundFetchAnswer, acknowledgments, before_pack, opening}
+use Rattle.git_host.specs.FetchFacts.{picked, readiness, wanted_lines}
 use Rattle.git_host.specs.declared.fetch_answer.Place.{Place}
 use Rattle.git_host.specs.declared.fetch_answer.Place.TheVariants.{Header, Have, Nak, Ready, Delimiter, Shallow, ShallowLine, WantedHeader, Wanted, WantedEnd}
 use Rattle.git_host.specs.declared.fetch_answer.Place.TheVariants.{PackHeader, Pack, Whole as AtEnd, Broken as AtLoss}
@@ -47,7 +47,7 @@ WhereNegotiating false P = Unit {0}
 
 -- where it negotiates, each object that the client has was reported on, and the pack follows
 abbrev pub IsOpened : FetchAsked → FetchFacts → Type 0
-IsOpened q t = WhereNegotiating (negotiates q) ((length t.has ≡ length q.haves) × (is_ready q t ≡ true))
+IsOpened q t = WhereNegotiating (negotiates q) ((length t.has ≡ length q.haves) × (readiness q t ≡ Some true))
 
 -- the section of the boundary, as far as its lines were reported
 abbrev pub shallow_so_far : List Boundary → List Pkt
@@ -58,7 +58,7 @@ pub record AtHeader (q : FetchAsked) (t : FetchFacts) (given : List Pkt) : Type 
   pub negotiates : negotiates q ≡ true
   pub none : t.has ≡ []
   pub given_is : given ≡ []
-  pub unready : t.ready ≡ false
+  pub unreported : t.ready ≡ None
   pub after : NothingAfter t
 
 -- the objects that the client has were reported on up to this place
@@ -68,7 +68,7 @@ pub record AtHave (next : ℕ) (any : Bool) (q : FetchAsked) (t : FetchFacts) (g
   pub more : next < length q.haves
   pub some : is_empty (picked t.has q.haves) ≡ not any
   pub given_is : given ≡ acks_header ∷ map ack_packet (picked t.has q.haves)
-  pub unready : t.ready ≡ false
+  pub unreported : t.ready ≡ None
   pub after : NothingAfter t
 
 -- the store has none of them
@@ -77,20 +77,20 @@ pub record AtNak (q : FetchAsked) (t : FetchFacts) (given : List Pkt) : Type 0 w
   pub all : length t.has ≡ length q.haves
   pub none : picked t.has q.haves ≡ []
   pub given_is : given ≡ acks_header ∷ []
-  pub unready : t.ready ≡ false
+  pub unreported : t.ready ≡ None
   pub after : NothingAfter t
 
 pub record AtReady (q : FetchAsked) (t : FetchFacts) (given : List Pkt) : Type 0 where
   pub negotiates : negotiates q ≡ true
   pub all : length t.has ≡ length q.haves
   pub given_is : given ≡ acknowledgments q t
-  pub unready : t.ready ≡ false
+  pub unreported : t.ready ≡ None
   pub after : NothingAfter t
 
 pub record AtDelimiter (q : FetchAsked) (t : FetchFacts) (given : List Pkt) : Type 0 where
   pub negotiates : negotiates q ≡ true
   pub all : length t.has ≡ length q.haves
-  pub is_ready : is_ready q t ≡ true
+  pub is_ready : readiness q t ≡ Some true
   pub given_is : given ≡ acknowledgments q t ++ text_line (codes "ready") ∷ []
   pub after : NothingAfter t
 
@@ -288,8 +288,8 @@ is_loss _ = false
 abbrev pub with_have : Bool → FetchFacts → FetchFacts
 with_have has t = record t { has = t.has ++ has ∷ [] }
 
-abbrev pub with_ready : FetchFacts → FetchFacts
-with_ready t = record t { ready = true }
+abbrev pub with_ready : Bool → FetchFacts → FetchFacts
+with_ready ready t = record t { ready = Some ready }
 
 abbrev pub with_line : Boundary → FetchFacts → FetchFacts
 with_line line t = record t { boundary = t.boundary ++ line ∷ [] }

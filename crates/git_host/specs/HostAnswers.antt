@@ -103,8 +103,7 @@ abbrev pub with_report : Report → Facts → Facts
 with_report (Want has) f = on_wants has f
 with_report (WantRef id) f = on_want_refs id f
 with_report (Have has) f = on_fetch (with_have has) f
-with_report (Ready true) f = on_fetch with_ready f
-with_report (Ready false) f = f
+with_report (Ready ready) f = on_fetch (with_ready ready) f
 with_report (Boundary line) f = on_fetch (with_line line) f
 with_report EndsBoundary f = on_fetch with_boundary_end f
 with_report (Pack bytes) f = on_fetch (with_pack (part_of bytes.now)) f

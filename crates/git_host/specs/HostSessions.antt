@@ -130,7 +130,7 @@ pub record GrowsAdmission (a later : AdmissionFacts) : Type 0 where
 
 pub record GrowsFetch (t later : FetchFacts) : Type 0 where
   pub has : IsFront t.has later.has
-  pub ready : t.ready ≡ true → later.ready ≡ true
+  pub ready : ForSome t.ready (λ ready. later.ready ≡ Some ready)
   pub boundary : IsFront t.boundary later.boundary
   pub boundary_ended : t.boundary_ended ≡ true → later.boundary_ended ≡ true
   pub wanted : IsFront t.wanted later.wanted

@@ -5,7 +5,7 @@ use Rattle.git_msg.specs.Asked.{FetchAsked}
 use Rattle.git_server.specs.Packs.{Manner, whole, broken}
 use Rattle.git_server.specs.Repository.{Entry, Repository, found_ref}
 use Rattle.git_server.specs.FetchAnswers.{is_ready_for, negotiates}
-use Rattle.git_host.specs.FetchFacts.{FetchFacts, is_ready, sends_pack}
+use Rattle.git_host.specs.FetchFacts.{FetchFacts, readiness, sends_pack}
 
 -- these are the objects of the references of these names
 abbrev pub AreFound : List Entry → List (List ℕ) → List ObjectName → Type 0
@@ -21,7 +21,7 @@ IsPackOf broken pack bytes = (more : List ℕ) × (pack ≡ bytes ++ more)
 -- what was reported for a fetch is what the repository answers, as far as the answer has it, with no progress
 pub record AreOfRepository (manner : Manner) (repo : Repository) (q : FetchAsked) (t : FetchFacts) : Type 0 where
   pub has : negotiates q ≡ true → t.has ≡ map repo.has q.haves
-  pub ready : negotiates q ≡ true → is_ready q t ≡ is_ready_for repo q
+  pub ready : negotiates q ≡ true → readiness q t ≡ Some (is_ready_for repo q)
   pub boundary : sends_pack q t ≡ true → t.boundary ≡ repo.boundaries q
   pub wanted : AreFound repo.refs q.want_refs t.wanted
   pub pack : sends_pack q t ≡ true → IsPackOf manner (repo.pack q) t.pack

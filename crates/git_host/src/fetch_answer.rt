@@ -259,7 +259,7 @@ impl<A: Allocator + Copy> FetchAnswer<A> {
     /// The store is ready to send a pack: `ready` is sent. Returns whether that was asked.
     pub fn ready(&mut self, hold: &mut Hold) -> bool
         ensures asked { result ≡ is_ready_asked (step_of self.old) }
-        ensures reported { WhereAsked result (ReportsAndGives with_ready self.old hold.new.items self.new) self.old self.new }
+        ensures reported { WhereAsked result (ReportsAndGives (with_ready true) self.old hold.new.items self.new) self.old self.new }
     {
         if !self.asks_ready() {
             return false;
@@ -272,7 +272,7 @@ impl<A: Allocator + Copy> FetchAnswer<A> {
     /// The store is not ready: the flush that ends the answer is sent. Returns whether that was asked.
     pub fn not_ready(&mut self, hold: &mut Hold) -> bool
         ensures asked { result ≡ is_ready_asked (step_of self.old) }
-        ensures reported { WhereAsked result (ReportsAndGives (λ t. t) self.old hold.new.items self.new) self.old self.new }
+        ensures reported { WhereAsked result (ReportsAndGives (with_ready false) self.old hold.new.items self.new) self.old self.new }
     {
         if !self.asks_ready() {
             return false;

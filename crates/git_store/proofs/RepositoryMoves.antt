@@ -1,7 +1,7 @@
 -- Moves of a host's server and of a store that answers as a repository does: what was reported is what the repository answers.
-use Rattle.std.proofs.Common.{arith, ◌≡◌, ◌⊎◌, ℕ, ◌<◌, Bool, true, false, List, [], ◌∷◌, ◌++◌, length, map, Option, Some, slice_get, take}
-use Rattle.std.proofs.Common.{refl, sym, ap, ◌∙◌, subst, inl, inr, if◌then◌else◌, not, ◌&&◌}
-use Rattle.std.specs.Option.{option_map}
+use Rattle.std.proofs.Common.{arith, ◌≡◌, ◌⊎◌, ℕ, ◌<◌, Bool, true, false, List, [], ◌∷◌, ◌++◌, length, map, Option, Some, None, slice_get, take}
+use Rattle.std.proofs.Common.{refl, sym, ap, ◌∙◌, subst, inl, inr, if◌then◌else◌, not, ◌&&◌, unwrap_or}
+use Rattle.std.specs.Option.{ForSome, option_map}
 use Rattle.std.proofs.lemmas.List.{length-map, length-take-le}
 use Rattle.git_names.specs.ObjectName.{ObjectName}
 use Rattle.git_names.specs.declared.object_format.Format.{Format}
@@ -9,11 +9,11 @@ use Rattle.git_pkt.specs.Packets.{Pkt}
 use Rattle.git_msg.specs.declared.requests.Request.{Request}
 use Rattle.git_msg.specs.Asked.{Asked, FetchAsked, LsRefsAsked, ObjectInfoAsked, fetch, ls_refs, object_info, only_negotiates}
 use Rattle.git_msg.specs.Machine.HeldRequest.{asked_of}
-use Rattle.git_server.specs.FetchAnswers.{negotiates}
+use Rattle.git_server.specs.FetchAnswers.{is_ready_for, negotiates}
 use Rattle.git_server.specs.Packs.{whole}
 use Rattle.git_server.specs.Repository.{Entry, IsRising, Repository, found_ref}
 use Rattle.git_host.specs.Admissions.{AdmissionFacts, AtWant, AtWantRef, StandsAtStep, asked_of as admission_asked, wanted_by}
-use Rattle.git_host.specs.FetchFacts.{FetchFacts, IsFetchAnswerWhere, is_ready, sends_pack}
+use Rattle.git_host.specs.FetchFacts.{FetchFacts, IsFetchAnswerWhere, readiness, sends_pack}
 use Rattle.git_host.specs.FetchPlaces.{StandsAt, asked_of as fetch_asked, step_at}
 use Rattle.git_host.specs.HostAnswers.{IsAnswering, IsNeeded, Terms, with_reported}
 use Rattle.git_host.specs.HostLookups.{answered_by}
@@ -172,7 +172,7 @@ pub record FetchButPack (repo : Repository) (q : FetchAsked) (t : FetchFacts) : 
   pub has : negotiates q ≡ true → t.has ≡ map repo.has q.haves
   pub boundary : sends_pack q t ≡ true → t.boundary ≡ repo.boundaries q
   pub wanted : AreFound repo.refs q.want_refs t.wanted
-  pub ready : t.ready ≡ true → repo.is_ready q ≡ true
+  pub ready : negotiates q ≡ true → readiness q t ≡ Some (is_ready_for repo q)
   pub progress : t.progress ≡ []
 
 abbrev pub ButPack : Repository → Asked → Facts → Type 0
@@ -186,17 +186,29 @@ AllButPack repo [] [] = Unit {0}
 AllButPack repo (q ∷ qs) (f ∷ fs) = ButPack repo q f × AllButPack repo qs fs
 AllButPack repo qs fs = ⊥
 
-all_haves : (b r : Bool) (q : FetchAsked) (t : FetchFacts) (packets : List Pkt) → IsFetchAnswerWhere b r whole q t packets → b ≡ true
+all_haves : (b : Bool) (r : Option Bool) (q : FetchAsked) (t : FetchFacts) (packets : List Pkt) → IsFetchAnswerWhere b r whole q t packets → b ≡ true
     → length t.has ≡ length q.haves
-all_haves true true q t packets h is = h.0
-all_haves true false q t packets h is = h.0
+all_haves true (Some true) q t packets h is = h.0
+all_haves true (Some false) q t packets h is = h.0
+all_haves true None q t packets h is = absurd h
 all_haves false r q t packets h is = absurd (cc)
 
-boundary_over : (b r : Bool) (q : FetchAsked) (t : FetchFacts) (packets : List Pkt) → IsFetchAnswerWhere b r whole q t packets
-    → (if b then r else true) ≡ true → t.boundary_ended ≡ true
-boundary_over true true q t packets h is = h.1.ended
-boundary_over true false q t packets h is = absurd (cc)
+boundary_over : (b : Bool) (r : Option Bool) (q : FetchAsked) (t : FetchFacts) (packets : List Pkt) → IsFetchAnswerWhere b r whole q t packets
+    → (if b then unwrap_or r false else true) ≡ true → t.boundary_ended ≡ true
+boundary_over true (Some true) q t packets h is = h.1.ended
+boundary_over true (Some false) q t packets h is = absurd (cc)
+boundary_over true None q t packets h is = absurd h
 boundary_over false r q t packets h is = h.ended
+
+-- whether the store is ready was reported where the request negotiates and may have a pack, as the repository answers
+ready_so : (alone able b : Bool) (reported r : Option Bool) (q : FetchAsked) (t : FetchFacts) (packets : List Pkt)
+    → IsFetchAnswerWhere b r whole q t packets → b ≡ true → r ≡ (if alone then Some false else reported)
+    → ForSome reported (λ reply. reply ≡ able) → r ≡ Some (not alone && able)
+ready_so true able true reported r q t packets h is from so = from
+ready_so false able true (Some reply) r q t packets h is from so = from ∙ ap Some (so reply refl)
+ready_so false able true None None q t packets h is from so = absurd h
+ready_so false able true None (Some reply) q t packets h is from so = absurd (cc)
+ready_so alone able false reported r q t packets h is from so = absurd (cc)
 
 found_all : (refs : List Entry) (names : List (List ℕ)) (ids : List ObjectName) → map (found_ref refs) names ≡ map Some ids → AreFound refs names ids
 found_all refs [] [] is = tt
@@ -218,10 +230,10 @@ whole_so repo at named format (fetch q) (of_fetch a t) packets so h =
       record { wants = wants; found = found },
       record {
         has = λ asks. front_all t.has (map repo.has q.haves) so.has
-            (omega (arith, length-map q.haves repo.has, all_haves (negotiates q) (is_ready q t) q t packets h.1.answer asks));
-        boundary = λ sends. so.all (boundary_over (negotiates q) (is_ready q t) q t packets h.1.answer sends);
+            (omega (arith, length-map q.haves repo.has, all_haves (negotiates q) (readiness q t) q t packets h.1.answer asks));
+        boundary = λ sends. so.all (boundary_over (negotiates q) (readiness q t) q t packets h.1.answer sends);
         wanted = found_all repo.refs q.want_refs t.wanted (sym found ∙ h.0.found);
-        ready = so.ready;
+        ready = λ asks. ready_so (only_negotiates q) (repo.is_ready q) (negotiates q) t.ready (readiness q t) q t packets h.1.answer asks refl so.ready;
         progress = so.progress;
       },
     )
@@ -245,13 +257,6 @@ all_with repo (p ∷ qs) q (g ∷ fs) f all so = (all.0, all_with repo qs q fs f
 all_with repo [] q (g ∷ fs) f all so = absurd all
 all_with repo (p ∷ qs) q [] f all so = absurd all
 
--- a pack that is sent is sent where the repository is ready
-as_ready : (more content able : Bool) → (content ≡ true → able ≡ true) → ((more && content) ≡ false → (more && able) ≡ false)
-    → (more && content) ≡ (more && able)
-as_ready true true able sends unready = sym (sends refl)
-as_ready true false able sends unready = sym (unready refl)
-as_ready false content able sends unready = refl
-
 -- with their packs
 with_pack : (repo : Repository) (q : Asked) (f : Facts) → ButPack repo q f → HasItsPack repo q f → IsAdmittedByRepository repo q f × IsOfRepository repo q f
 with_pack repo (ls_refs q) (of_references t) so packed = (tt, so)
@@ -259,10 +264,10 @@ with_pack repo (fetch q) (of_fetch a t) so packed = (
   so.0,
   record {
     has = so.1.has;
-    ready = λ asks. as_ready (not (only_negotiates q)) t.ready (repo.is_ready q) so.1.ready (packed.unready asks);
+    ready = so.1.ready;
     boundary = so.1.boundary;
     wanted = so.1.wanted;
-    pack = packed.pack;
+    pack = packed;
     progress = so.1.progress;
   },
 )

@@ -1,7 +1,7 @@
 -- One reply more of a store that answers as a repository does: what was reported for the request at hand goes on as the repository answers.
 use Rattle.std.proofs.Common.{arith, ◌≡◌, ℕ, ◌+◌, ◌≤◌, Bool, true, false, List, [], ◌∷◌, ◌++◌, length, map, Option, Some, None, slice_get}
 use Rattle.std.proofs.Common.{refl, sym, ap, ◌∙◌, append-nil, length-append, subst, inl, inr}
-use Rattle.std.specs.Option.{option_map}
+use Rattle.std.specs.Option.{ForSome, option_map}
 use Rattle.std.proofs.lemmas.Option.{slice_get-map, slice_get_cases}
 use Rattle.git_names.specs.ObjectName.{ObjectName}
 use Rattle.git_msg.specs.declared.Boundary.{Boundary}
@@ -12,7 +12,7 @@ use Rattle.git_host.specs.Admissions.{AdmissionFacts}
 use Rattle.git_host.specs.FetchFacts.{FetchFacts}
 use Rattle.git_host.specs.HostAnswers.{with_hidden, with_report, with_reported}
 use Rattle.git_host.specs.HostSessions.{Facts, IsFront, nothing_for, of_fetch, of_references, of_sizes}
-use Rattle.git_store.specs.Questions.{IsReportOf, Reply, ask_boundary, ask_have, ask_pack, ask_reference, ask_size, ask_want, ask_want_ref, entry}
+use Rattle.git_store.specs.Questions.{IsReportOf, Question, Reply, ask_boundary, ask_have, ask_pack, ask_reference, ask_size, ask_want, ask_want_ref, entry}
 use Rattle.git_store.specs.Questions.{failed, found, has, line, pack_end, part, progress, ready, references_end, size_is, unborn}
 use Rattle.git_host.specs.ReferencesPlaces.{ReferencesFacts}
 use Rattle.git_store.specs.RepoReplies.{IsNamed, IsReplyOf, named_after, place_after}
@@ -57,6 +57,29 @@ past_all xs at none = elim (slice_get_cases xs at).1 [
   | inr (most, is) ↦ most
 ]
 
+-- ---- a repository with other packs
+
+named_as_well : (repo : Repository) (pack : FetchAsked → List ℕ) (named : Bool) → IsNamed repo named → IsNamed (record repo { pack = pack }) named
+named_as_well repo pack true is = tt
+named_as_well repo pack false is = is
+
+-- no reply depends on its packs
+pub replies_as_well : (repo : Repository) (pack : FetchAsked → List ℕ) (at : ℕ) (named : Bool) (question : Question) (reply : Reply)
+    → IsReplyOf repo at named question reply → IsReplyOf (record repo { pack = pack }) at named question reply
+replies_as_well repo pack at named (ask_want id) (has b) is = is
+replies_as_well repo pack at named (ask_want_ref name) (found id) is = is
+replies_as_well repo pack at named (ask_have id) (has b) is = is
+replies_as_well repo pack at named (ready q) (has b) is = is
+replies_as_well repo pack at named (ask_boundary q) (line l) is = is
+replies_as_well repo pack at named ask_reference (entry e) is = (named_as_well repo pack named is.0, is.1)
+replies_as_well repo pack at named ask_reference (unborn target) is = is
+replies_as_well repo pack at named ask_reference references_end is = (named_as_well repo pack named is.0, is.1)
+replies_as_well repo pack at named ask_reference failed is = tt
+replies_as_well repo pack at named (ask_pack q) (progress bytes) is = absurd is
+replies_as_well repo pack at named (ask_pack q) reply is = tt
+replies_as_well repo pack at named (ask_size id) (size_is size) is = is
+replies_as_well repo pack at named question reply is = absurd is
+
 -- ---- what was reported so far
 
 -- after references that were reported, what an unborn `HEAD` points to was reported or not
@@ -79,7 +102,7 @@ pub record FetchSoFar (repo : Repository) (at : ℕ) (q : FetchAsked) (a : Admis
   pub lines : IsFront t.boundary (repo.boundaries q)
   pub count : length t.boundary ≡ at
   pub all : t.boundary_ended ≡ true → t.boundary ≡ repo.boundaries q
-  pub ready : t.ready ≡ true → repo.is_ready q ≡ true
+  pub ready : ForSome t.ready (λ b. b ≡ repo.is_ready q)
   pub progress : t.progress ≡ []
 
 -- by the command
@@ -98,7 +121,7 @@ nothing_so_far repo (fetch q) = record {
   lines = (repo.boundaries q, refl);
   count = refl;
   all = λ is. absurd (cc);
-  ready = λ is. absurd (cc);
+  ready = λ b is. absurd (cc);
   progress = refl;
 }
 nothing_so_far repo (object_info q) = (map repo.object_size q.oids, refl)
@@ -192,24 +215,20 @@ module _ (repo : Repository) (rising : IsRising repo.refs) (at : ℕ) (named : B
         }))
     one_have next id count here reply report is reports = absurd is
 
-    ready_on : (b : Bool) → b ≡ repo.is_ready q → SoFar repo at named (fetch q) (with_report (Ready b) (of_fetch a t))
-    ready_on true is = record {
-      wants = h.wants;
-      found = h.found;
-      has = h.has;
-      lines = h.lines;
-      count = h.count;
-      all = h.all;
-      ready = λ reported. sym is;
-      progress = h.progress;
-    }
-    ready_on false is = h
-
     pub one_ready : (reply : Reply) (report : Report) → IsReplyOf repo at named (ready q) reply → IsReportOf NeedReady reply report
         → Onward reply report (fetch q) (of_fetch a t)
     one_ready (has b) report is reports =
         subst (λ (r : Report). Onward (has b) r (fetch q) (of_fetch a t)) (sym reports)
-        (by_taken (SoFar repo at named (fetch q)) what (Ready b) (of_fetch a t) taken refl (ready_on b is))
+        (by_taken (SoFar repo at named (fetch q)) what (Ready b) (of_fetch a t) taken refl (record {
+          wants = h.wants;
+          found = h.found;
+          has = h.has;
+          lines = h.lines;
+          count = h.count;
+          all = h.all;
+          ready = λ other reported. let same : b ≡ other = cc in sym same ∙ is;
+          progress = h.progress;
+        }))
     one_ready reply report is reports = absurd is
 
     pub one_line : (reply : Reply) (report : Report) → IsReplyOf repo at named (ask_boundary q) reply → IsReportOf NeedBoundary reply report
@@ -256,7 +275,7 @@ module _ (repo : Repository) (rising : IsRising repo.refs) (at : ℕ) (named : B
       lines = subst (λ (l : List Boundary). IsFront l (repo.boundaries q)) (sym lines) h.lines;
       count = ap length lines ∙ h.count;
       all = λ is. lines ∙ h.all (sym ended ∙ is);
-      ready = λ is. h.ready (sym able ∙ is);
+      ready = λ b is. h.ready b (sym able ∙ is);
       progress = quiet ∙ h.progress;
     }
 

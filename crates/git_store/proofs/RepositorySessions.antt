@@ -8,7 +8,7 @@ use Rattle.git_msg.proofs.Cuts.{not_empty}
 use Rattle.git_msg.specs.Asked.{Asked}
 use Rattle.git_msg.specs.Machine.HeldRequest.{asked_of, holding_of}
 use Rattle.git_msg.specs.Machine.RequestStreams.{AreAsked}
-use Rattle.git_server.specs.Repository.{IsRising, RepoState, Repository}
+use Rattle.git_server.specs.Repository.{IsRising, IsSound, RepoState, Repository}
 use Rattle.git_server.specs.Sessions.{IsSession}
 use Rattle.git_server.specs.declared.outcome.Outcome.{Outcome}
 use Rattle.git_server.specs.declared.outcome.Outcome.TheVariants.{Flush, Closed, Refused}
@@ -40,7 +40,7 @@ use Rattle.git_store.proofs.LostAnswers.{closed_unanswered, fails_lost, first_un
 use Rattle.git_store.proofs.LostAnswers.{was_answering, well_unlost}
 use Rattle.git_store.proofs.RepositoryMoves.{AllButPack, Came, Stands, all_so, came_or_not, one_reply, waits_reply, waits_whole}
 use Rattle.git_store.proofs.RepositoryMoves.{with_packs}
-use Rattle.git_store.proofs.RepositoryReports.{SoFar, nothing_so_far}
+use Rattle.git_store.proofs.RepositoryReports.{SoFar, nothing_so_far, replies_as_well}
 use Rattle.git_store.proofs.StoreSteps.{any_moves, one_move}
 
 one_item : {X : Type 0} (xs : List X) → length xs ≡ 1 → (x : X) × (xs ≡ x ∷ [])
@@ -136,10 +136,15 @@ all_done s used over facts given (Refused fault) well h = absurd well
 all_done s used over facts given Flush well (inr h) = absurd h
 all_done s used over facts given Closed well (inr h) = absurd h
 
+-- the names of a store's references rise, whatever packs it has
+pub rises_as_well : {R P : Type 0} (state : R → RepoState) (repo : Repository) (store : RepoStore R P) → IsSound (answers_of state store)
+    → record (answers_of state store) { pack = repo.pack } ≡ repo → IsRising repo.refs
+rises_as_well state repo store sound is = subst (λ (r : Repository). IsRising r.refs) is sound.rising
+
 module _ {R P : Type 0} (state : R → RepoState) (s : HostSetting) (repo : Repository) (rising : IsRising repo.refs) where
   -- what was reported stands so by the store's counter
   record Tracks (received : Bool) (used : List ℕ) (facts : List Facts) (store : RepoStore R P) : Type 0 where
-    answers : answers_of state store ≡ repo
+    answers : record (answers_of state store) { pack = repo.pack } ≡ repo
     so : (asked : List Asked) (left : List Given) (rest : List ℕ) → AreAsked s.offer s.limit used asked left rest → length asked ≡ length facts
         → Stands repo received store.at store.named_unborn asked facts
 
@@ -226,7 +231,7 @@ module _ {R P : Type 0} (state : R → RepoState) (s : HostSetting) (repo : Repo
         let last = at.last in
         let many_now = many_at_last s at.asked facts given _ last in
         record {
-          answers = anew.same ∙ h.answers;
+          answers = ap (λ (r : Repository). record r { pack = repo.pack }) anew.same ∙ h.answers;
           so = λ asked rest_packets rest are many.
               let same = asked_once s.offer s.limit used at.asked asked [] rest_packets [] rest at.are_asked are (many_now ∙ sym many) in
               elim (h.so asked rest_packets rest are many) as (λ x. Stands repo true left.at left.named_unborn asked facts) [
@@ -267,7 +272,8 @@ module _ {R P : Type 0} (state : R → RepoState) (s : HostSetting) (repo : Repo
         let (reports, taken, does) = answers.turns_out in
         let asks = subst (λ (p : Phase A). question_by (at_hand p) need ≡ Some question) w.phase_is answers.is_asked in
         let replied = answers.replied in
-        let is_reply = subst (λ (r : Repository). IsReplyOf r store.at store.named_unborn question reply) h.answers replied.reply_is in
+        let is_reply = subst (λ (r : Repository). IsReplyOf r store.at store.named_unborn question reply) h.answers
+        (replies_as_well (answers_of state store) repo.pack store.at store.named_unborn question reply replied.reply_is) in
         let as_long : length (with_last with facts) ≡ length facts =
         omega (
           arith,
@@ -277,7 +283,7 @@ module _ {R P : Type 0} (state : R → RepoState) (s : HostSetting) (repo : Repo
           length-append last.earlier_reported (with last.f ∷ []),
         ) in
         record {
-          answers = replied.same ∙ h.answers;
+          answers = ap (λ (r : Repository). record r { pack = repo.pack }) replied.same ∙ h.answers;
           so = λ asked rest_packets rest are many.
               let before_many : length asked ≡ length facts = many ∙ as_long in
               let same = asked_once s.offer s.limit used at.asked asked [] rest_packets [] rest at.are_asked are (many_now ∙ sym before_many) in

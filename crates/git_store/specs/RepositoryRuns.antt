@@ -1,12 +1,11 @@
 -- Sessions over a store that answers as a repository does: what its moves and its packs have to be.
 use Rattle.std.specs.Prelude.{◌≡◌, ℕ, Bool, true, false, List, [], ◌∷◌, length, Some}
 use Rattle.git_pkt.specs.Splits.{Given}
-use Rattle.git_msg.specs.Asked.{Asked, FetchAsked, fetch}
+use Rattle.git_msg.specs.Asked.{Asked, fetch}
 use Rattle.git_msg.specs.Machine.RequestStreams.{AreAsked}
-use Rattle.git_server.specs.FetchAnswers.{is_ready_for, negotiates}
-use Rattle.git_server.specs.Repository.{IsRising, RepoState, Repository}
+use Rattle.git_server.specs.Repository.{RepoState, Repository}
 use Rattle.git_server.specs.declared.outcome.Outcome.{Outcome}
-use Rattle.git_host.specs.FetchFacts.{FetchFacts, is_ready, sends_pack}
+use Rattle.git_host.specs.FetchFacts.{sends_pack}
 use Rattle.git_store.specs.HostedRepository.{EndsWell}
 use Rattle.git_host.specs.HostServer.{Hosts, outcome_of}
 use Rattle.git_host.specs.HostSessions.{Facts, HostSetting, of_fetch}
@@ -20,13 +19,9 @@ abbrev pub received_after : Bool → List Facts → Bool
 received_after received [] = received
 received_after received (f ∷ fs) = false
 
--- the pack that was reported for a fetch is the repository's, and where none follows the repository is not ready to send one
-pub record IsPackedAs (repo : Repository) (q : FetchAsked) (t : FetchFacts) : Type 0 where
-  pub unready : negotiates q ≡ true → is_ready q t ≡ false → is_ready_for repo q ≡ false
-  pub pack : sends_pack q t ≡ true → t.pack ≡ repo.pack q
-
+-- the pack that was reported for a fetch, where one follows, is the repository's for that request
 abbrev pub HasItsPack : Repository → Asked → Facts → Type 0
-HasItsPack repo (fetch q) (of_fetch a t) = IsPackedAs repo q t
+HasItsPack repo (fetch q) (of_fetch a t) = sends_pack q t ≡ true → t.pack ≡ repo.pack q
 HasItsPack repo q f = Unit {0}
 
 -- and so of each request
@@ -40,13 +35,12 @@ IsPackedBy s repo used reported =
     (asked : List Asked) (left : List Given) (rest : List ℕ) → AreAsked s.offer s.limit used asked left rest → length asked ≡ length reported
     → AllHaveTheirPacks repo asked reported
 
--- these moves of a host's server and of a store with the answers of a repository, from the beginning of a session on, ended it well, and each
--- pack is the repository's
+-- these moves of a host's server and of a store, from the beginning of a session on, ended it well; the repository answers as that of the store,
+-- but that its pack for a request is the one that was reported
 pub record ServesRepository {R P A : Type 0} (state : R → RepoState) (s : HostSetting) (repo : Repository) (moves : List Move) (outcome : Outcome)
     (first : HostServer A) (store : RepoStore R P) (last : HostServer A) (left : RepoStore R P) : Type 0 where
   pub begins : Hosts s [] false [] [] first
-  pub answers : answers_of state store ≡ repo
-  pub rising : IsRising repo.refs
+  pub answers : record (answers_of state store) { pack = repo.pack } ≡ repo
   pub made : AllMade (λ old asked new. BeginsAnew state old new) (RepliesAs state) moves first store last left
   pub packs : IsPackedBy s repo (used_in moves) (facts_after [] moves)
   pub ended : outcome_of last ≡ Some outcome

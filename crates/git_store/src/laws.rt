@@ -62,8 +62,8 @@ pub fn lacking_request_is_refused_at_its_line()
         → RefusesAtItsLine (over_repository s repo failures) used given fault }
 {}
 
-/// What a `RepoStore` replies is what its repository answers. So if a session over one ended well, and the packs are the repository's, then all
-/// that was reported is what the repository answers, and the session is one of a server over that repository.
+/// What a `RepoStore` replies is what its repository answers, but for its packs. So if a session over one ended well, then all that was reported
+/// is what the repository answers that has for each request the pack that was reported, and the session is one of a server over it.
 pub fn store_session_is_a_repositorys<R: Repo, P, A: Allocator + Copy>()
     ensures reported { (s : HostSetting) (repo : Repository) (moves : List Move) (outcome : Outcome) (first : HostServer A) (store : RepoStore R P)
         (last : HostServer A) (left : RepoStore R P) → ServesRepository R.state s repo moves outcome first store last left

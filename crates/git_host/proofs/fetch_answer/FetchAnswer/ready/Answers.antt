@@ -1,4 +1,4 @@
-use Rattle.std.proofs.Common.{◌∙◌, codes, refl, subst, sym}
+use Rattle.std.proofs.Common.{true, ◌∙◌, codes, refl, subst, sym}
 use Rattle.git_msg.specs.WrittenRequest.{text_line}
 use Rattle.git_host.specs.FetchPlaces.{StandsAt, with_ready}
 use Rattle.git_host.specs.declared.fetch_answer.Place.{Place}
@@ -14,5 +14,5 @@ returns-clause-reported g c t given h =
       packet = text_line (codes "ready");
       held = line_held _ (codes "ready") c.put_line.ensures.written c.put_line.ensures.fits;
       same = record { request = refl; format = refl; wanted = refl };
-      holds = record { wanted = h.wanted; all = h.all; sound = sound_so _ q t (with_ready t) refl refl h.sound; stands = after_ready q t given at other };
+      holds = record { wanted = h.wanted; all = h.all; sound = sound_so _ q t (with_ready true t) refl refl h.sound; stands = after_ready q t given at other };
     }
