@@ -30,7 +30,9 @@ use git_msg::{Limits, Offer, Request};
 use git_names::Format;
 use git_pkt::{Discard, LONGEST_PACKET, Recorded, Retries, RunFault};
 use git_repository::{LONGEST_LINE, Packs, RepositoryReader, TextFault};
-use git_server::{LateRepo, ListRepo, Outcome, Pack, Repo, Server, serve, take_request, write_pending};
+use git_server::{
+    LateRepo, ListRepo, Outcome, Pack, Repo, Server, serve, take_request, write_pending,
+};
 use git2show_lib::{ProgramFault, play, read_script, report};
 use std::alloc::{AllocError, Global};
 use std::fs::File;

@@ -247,7 +247,8 @@ module _ {M : Type 0} (states : States M) where
       }
 
       -- it went on with a read of the input of this number
-      pub reads_once_more : {first before now : Moment M I O} (from : ℕ) → ReadsAsNeeded states views false first before → IsNeeded states views (record { at = before; from = from })
+      pub reads_once_more : {first before now : Moment M I O} (from : ℕ) → ReadsAsNeeded states views false first before
+          → IsNeeded states views (record { at = before; from = from })
           → WentOn states views broken before now → ReadsOnce from (views.input before.inputs) (views.input now.inputs)
           → ReadsAsNeeded states views broken first now
       reads_once_more {first} {before} {now} from h needed more read = record {

@@ -24,10 +24,10 @@ fn drain<M: Machine, O: Outputs>(
 ) -> Result<Option<u8>, RunFault>
     requires outputs { (m : M) (to : ℕ) → M.gives_to m to → O.has to }
     requires holds { M.holds machine.old fed.now }
-    ensures ok { OnOk result ((inputs : ℕ → InputState) → Went (states_of M.reaches M.needs_input M.done_with M.stopped_short M.reachable) false machine.old machine.new inputs inputs
-        (O.contents outputs.old) (O.contents outputs.new)) }
-    ensures front { OnErr result ((inputs : ℕ → InputState) → Went (states_of M.reaches M.needs_input M.done_with M.stopped_short M.reachable) true machine.old machine.new inputs inputs
-        (O.contents outputs.old) (O.contents outputs.new)) }
+    ensures ok { OnOk result ((inputs : ℕ → InputState) → Went (states_of M.reaches M.needs_input M.done_with M.stopped_short M.reachable)
+        false machine.old machine.new inputs inputs (O.contents outputs.old) (O.contents outputs.new)) }
+    ensures front { OnErr result ((inputs : ℕ → InputState) → Went (states_of M.reaches M.needs_input M.done_with M.stopped_short M.reachable)
+        true machine.old machine.new inputs inputs (O.contents outputs.old) (O.contents outputs.new)) }
     ensures at { IfOk result (λ next. IsAt next (M.needs_input machine.new) (M.finished machine.new)) }
     ensures fault { IfErr result (λ fault. fault ≡ RunFault.WriteFault) }
     ensures failed { O.failed outputs.new ≡ (O.failed outputs.old || is_err result) }
@@ -52,8 +52,8 @@ fn read_more<M: Machine, I: Inputs>(
     requires exists { I.has from }
     requires empty { (I.input inputs.old from).window ≡ [] }
     requires unended { (I.input inputs.old from).ended ≡ false }
-    ensures went { (held : ℕ → Option (List ℕ)) → Went (states_of M.reaches M.needs_input M.done_with M.stopped_short M.reachable) false machine.old machine.new (I.input inputs.old) (I.input inputs.new)
-        held held }
+    ensures went { (held : ℕ → Option (List ℕ)) → Went (states_of M.reaches M.needs_input M.done_with M.stopped_short M.reachable)
+        false machine.old machine.new (I.input inputs.old) (I.input inputs.new) held held }
     ensures holds { OnOk result (M.holds machine.new []) }
     ensures ended { (I.input inputs.new from).ended ≡ true → M.done_with machine.new from }
     ensures unread { OnErr result ((machine.new ≡ machine.old) × WaitsFor (M.needs_input machine.new) (I.input inputs.new) from) }
@@ -81,9 +81,11 @@ fn advance<M: Machine, I: Inputs, O: Outputs>(
     requires inputs { (m : M) (k : ℕ) → M.needs_input m k → I.has k }
     requires outputs { (m : M) (to : ℕ) → M.gives_to m to → O.has to }
     requires holds { M.holds machine.old [] }
-    ensures ok { OnOk result (Went (states_of M.reaches M.needs_input M.done_with M.stopped_short M.reachable) false machine.old machine.new (I.input inputs.old) (I.input inputs.new)
+    ensures ok { OnOk result (Went (states_of M.reaches M.needs_input M.done_with M.stopped_short M.reachable)
+        false machine.old machine.new (I.input inputs.old) (I.input inputs.new)
         (O.contents outputs.old) (O.contents outputs.new)) }
-    ensures front { OnErr result (Went (states_of M.reaches M.needs_input M.done_with M.stopped_short M.reachable) true machine.old machine.new (I.input inputs.old) (I.input inputs.new)
+    ensures front { OnErr result (Went (states_of M.reaches M.needs_input M.done_with M.stopped_short M.reachable)
+        true machine.old machine.new (I.input inputs.old) (I.input inputs.new)
         (O.contents outputs.old) (O.contents outputs.new)) }
     ensures at { IfOk result (λ next. IsAt next (M.needs_input machine.new) (M.finished machine.new)) }
     ensures nothing { IfOk result (λ next. HasNothing next (I.input inputs.new)) }

@@ -9,7 +9,9 @@ invariant-loop-to g l = record {
   failed : g.O.Outputs.failed l.outputs ≡ g.O.Outputs.failed l.fn.outputs;
   holds : g.M.Machine.holds l.machine l.fed;
   same_writers : g.O.Outputs.same_writers l.fn.outputs l.outputs;
-  went : (inputs : ℕ → InputState) → Went (states_of g.M.Machine.reaches g.M.Machine.needs_input g.M.Machine.done_with g.M.Machine.stopped_short g.M.Machine.reachable) false l.fn.machine l.machine inputs inputs (g.O.Outputs.contents l.fn.outputs) (g.O.Outputs.contents l.outputs);
+  went : (inputs : ℕ → InputState)
+      → Went (states_of g.M.Machine.reaches g.M.Machine.needs_input g.M.Machine.done_with g.M.Machine.stopped_short g.M.Machine.reachable)
+      false l.fn.machine l.machine inputs inputs (g.O.Outputs.contents l.fn.outputs) (g.O.Outputs.contents l.outputs);
 }
 
 abbrev pub decreases-loop-to : goal.decreases-loop-to

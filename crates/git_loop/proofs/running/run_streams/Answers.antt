@@ -125,17 +125,20 @@ returns-in_err-next-clause-needed g c =
 pub returns-in_err-flush-clause-needed : goal.returns-in_err-flush-clause-needed
 returns-in_err-flush-clause-needed g c =
     reads_at WriteFault _ c.in_err-flush.ensures.fault c.from_residual-in_err-flush.ensures.1
-    (reads_no_more _ g.met.M.Machine.reaches_further g.met.M.Machine.stays_reachable _ true c.loop.invariant.needed (went_flushed _ true g.met.M.Machine.reaches_itself _ _ c.in_err-flush.ensures.kept) (λ k. refl))
+    (reads_no_more _ g.met.M.Machine.reaches_further g.met.M.Machine.stays_reachable _ true c.loop.invariant.needed
+    (went_flushed _ true g.met.M.Machine.reaches_itself _ _ c.in_err-flush.ensures.kept) (λ k. refl))
 
 pub returns-in_err-flush-2-clause-needed : goal.returns-in_err-flush-2-clause-needed
 returns-in_err-flush-2-clause-needed g c =
     reads_at WriteFault _ c.in_err-flush-2.ensures.fault c.from_residual-in_err-flush-2.ensures.1
-    (reads_no_more _ g.met.M.Machine.reaches_further g.met.M.Machine.stays_reachable _ true c.loop.invariant.needed (went_flushed _ true g.met.M.Machine.reaches_itself _ _ c.in_err-flush-2.ensures.kept) (λ k. refl))
+    (reads_no_more _ g.met.M.Machine.reaches_further g.met.M.Machine.stays_reachable _ true c.loop.invariant.needed
+    (went_flushed _ true g.met.M.Machine.reaches_itself _ _ c.in_err-flush-2.ensures.kept) (λ k. refl))
 
 pub returns-in_err-read_more-clause-needed : goal.returns-in_err-read_more-clause-needed
 returns-in_err-read_more-clause-needed g c =
     reads_at ReadFault _ c.in_err-read_more.ensures.fault c.from_residual-in_err-read_more.ensures.1
-    (reads_once_more _ g.met.M.Machine.reaches_further g.met.M.Machine.stays_reachable _ false c.in-Some.from (reads_no_more _ g.met.M.Machine.reaches_further g.met.M.Machine.stays_reachable _ false c.loop.invariant.needed
+    (reads_once_more _ g.met.M.Machine.reaches_further g.met.M.Machine.stays_reachable _ false c.in-Some.from
+    (reads_no_more _ g.met.M.Machine.reaches_further g.met.M.Machine.stays_reachable _ false c.loop.invariant.needed
     (went_flushed _ false g.met.M.Machine.reaches_itself _ _ c.in_ok-flush.ensures.kept) (λ k. refl)) (record {
       needs = rw c.in-Some.is at c.loop.invariant.at;
       empty = rw c.in-Some.is at c.loop.invariant.nothing;
@@ -147,7 +150,8 @@ returns-in_err-read_more-clause-needed g c =
 pub returns-in_err-next-2-clause-needed : goal.returns-in_err-next-2-clause-needed
 returns-in_err-next-2-clause-needed g c =
     reads_at WriteFault _ c.in_err-next-2.ensures.fault c.from_residual-in_err-next-2.ensures.1
-    (reads_once_more _ g.met.M.Machine.reaches_further g.met.M.Machine.stays_reachable _ true c.in-Some.from (reads_no_more _ g.met.M.Machine.reaches_further g.met.M.Machine.stays_reachable _ false c.loop.invariant.needed
+    (reads_once_more _ g.met.M.Machine.reaches_further g.met.M.Machine.stays_reachable _ true c.in-Some.from
+    (reads_no_more _ g.met.M.Machine.reaches_further g.met.M.Machine.stays_reachable _ false c.loop.invariant.needed
     (went_flushed _ false g.met.M.Machine.reaches_itself _ _ c.in_ok-flush.ensures.kept) (λ k. refl)) (record {
       needs = rw c.in-Some.is at c.loop.invariant.at;
       empty = rw c.in-Some.is at c.loop.invariant.nothing;

@@ -15,7 +15,8 @@ invariant-loop g l = record {
   sound_outputs : g.O.Outputs.failed l.outputs ≡ false;
   same_readers : g.I.Inputs.same_readers l.fn.inputs l.inputs;
   same_writers : g.O.Outputs.same_writers l.fn.outputs l.outputs;
-  went : Went (states_of g.M.Machine.reaches g.M.Machine.needs_input g.M.Machine.done_with g.M.Machine.stopped_short g.M.Machine.reachable) false l.fn.machine l.machine (g.I.Inputs.input l.fn.inputs) (g.I.Inputs.input l.inputs) (g.O.Outputs.contents l.fn.outputs)
+  went : Went (states_of g.M.Machine.reaches g.M.Machine.needs_input g.M.Machine.done_with g.M.Machine.stopped_short g.M.Machine.reachable)
+      false l.fn.machine l.machine (g.I.Inputs.input l.fn.inputs) (g.I.Inputs.input l.inputs) (g.O.Outputs.contents l.fn.outputs)
       (g.O.Outputs.contents l.outputs);
   needed : ReadsAsNeeded (states_of g.M.Machine.reaches g.M.Machine.needs_input g.M.Machine.done_with g.M.Machine.stopped_short g.M.Machine.reachable)
       (record { input = g.I.Inputs.input; contents = g.O.Outputs.contents; flushed = g.O.Outputs.flushed }) false
