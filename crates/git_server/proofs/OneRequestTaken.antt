@@ -8,7 +8,6 @@ use Rattle.git_pkt.specs.Machine.Engine.{FailsAs, IsShownBy}
 use Rattle.git_pkt.specs.declared.fault.RunFault.{RunFault}
 use Rattle.git_pkt.specs.declared.fault.RunFault.TheVariants.{ReadFault, WriteFault, ReadLimit, Refused}
 use Rattle.git_server.specs.Repository.{RepoState}
-use Rattle.git_server.specs.Sessions.{Setting}
 use Rattle.git_server.specs.Machine.LatePacks.{setting_with, state_with}
 use Rattle.git_server.specs.Machine.OneRequest.{TakesBy, TakesOne}
 use Rattle.git_server.specs.Machine.Server.{Running}

@@ -1,6 +1,6 @@
 -- A run of a server: what the machine's states at both ends mean for its session.
 use Rattle.std.proofs.Common.{◌≡◌, ◌≢◌, inl, inr, ℕ, Bool, true, false, List, [], ◌∷◌, ◌++◌, length, Result, Ok, Err, IsErrAnd, IfErr, Some}
-use Rattle.std.proofs.Common.{sym, ap, ◌∙◌, refl, append_assoc, append-nil, subst}
+use Rattle.std.proofs.Common.{ap, ◌∙◌, refl}
 use Rattle.git_loop.specs.Machines.{EndsRun, HasFinished as RunHasFinished, IsWaiting, Ran, RunStates}
 use Rattle.git_loop.specs.Moves.{ended_after, given_to, used_of}
 use Rattle.git_pkt.specs.Faults.{last_position}

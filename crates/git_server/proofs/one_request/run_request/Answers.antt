@@ -1,7 +1,6 @@
 use Rattle.std.proofs.Common.{refl}
 use Rattle.git_loop.specs.OneStreams.{reader_of, waiting_in}
 use Rattle.git_loop.specs.Streams.{recorded_input}
-use Rattle.git_server.specs.Machine.Server.{wants_input}
 use Rattle.git_server.proofs.OneRequestTaken.{takes_failing, takes_on, takes_one, takes_shown, takes_whole}
 use Rattle.git_server.proofs.one_request.run_request.Goals as goal
 

@@ -1,4 +1,4 @@
-use Rattle.std.proofs.Common.{refl, sym, ◌∙◌}
+use Rattle.std.proofs.Common.{sym, ◌∙◌}
 use Rattle.git_server.specs.Machine.Moved.{goes_nowhere}
 use Rattle.git_server.proofs.Machines.{gives_part, reads_now, stays_ended, too_long_by_pull}
 use Rattle.git_server.proofs.machine.ServerMachine.next.Goals as goal
