@@ -13,12 +13,13 @@ use Rattle.git_msg.specs.declared.arguments.Command.TheVariants.{LsRefs, Fetch, 
 use Rattle.git_msg.specs.declared.offers.Caps.{Caps}
 use Rattle.git_msg.specs.declared.requests.Request.{Request}
 use Rattle.git_msg.specs.Advertisement.{everything, noted_of, takes_command}
-use Rattle.git_msg.specs.Arguments.{Arg, IsNameIn, IsValue, MayFollow, Value, Word, have, id_value, is_offered, object_id, of_flag, row}
+use Rattle.git_msg.specs.Arguments.{Arg, IsNameIn, IsValue, MayFollow, Value, id_value, is_offered, row}
+use Rattle.git_msg.specs.declared.words.Word.{Word}
+use Rattle.git_msg.specs.declared.words.Word.TheVariants.{Have as have, ObjectId as object_id, Flag as of_flag}
 use Rattle.git_msg.specs.declared.flags.Flag.{Flag}
 use Rattle.git_msg.specs.Asked.{Asked, HasValues, arguments_in, fetch, haves_of, id_in, ls_refs, object_info, oids_of}
 use Rattle.git_msg.specs.Machine.HeldRequest.{asked_of, format_of}
 use Rattle.git_msg.specs.Lines.{IsFormatMeant}
-use Rattle.git_msg.proofs.ArgumentsInOrder.{arguments_in_order}
 use Rattle.git_msg.proofs.FoundParts.{All-filter_map}
 use Rattle.git_msg.proofs.RoundTrip.{meant_when_stated}
 use Rattle.git_msg.proofs.WholeRequests.{lines_have_no_flush}
@@ -67,11 +68,9 @@ names_in format command named is args values =
 pub asks_in : (format : Format) (q : Asked) → HasValues format q → AsksIn format q
 asks_in format (ls_refs q) values = tt
 asks_in format (fetch q) values =
-    subst (All (IsNameIn format)) (ap haves_of (arguments_in_order (fetch q)))
-    (names_in format Fetch (id_in have) (λ arg value. have_named format arg.word arg.value value.1) (arguments_in (fetch q)) values)
+    names_in format Fetch (id_in have) (λ arg value. have_named format arg.word arg.value value.1) q values.allowed
 asks_in format (object_info q) values =
-    subst (All (IsNameIn format)) (ap oids_of (arguments_in_order (object_info q)))
-    (names_in format ObjectInfo (id_in object_id) (λ arg value. object_named format arg.word arg.value value.1) (arguments_in (object_info q)) values)
+    names_in format ObjectInfo (id_in object_id) (λ arg value. object_named format arg.word arg.value value.1) q values.allowed
 
 -- ---- what a server that advertises everything reads
 

@@ -19,6 +19,8 @@ pub mod LinesLeft
 pub mod RoundTrip
 pub mod FaultLaws
 pub mod HeldFlags
+pub mod HeldArguments
+pub mod WrittenArguments
 pub mod KeptBytes
 pub mod RefusedLists
 pub mod ReaderRuns

@@ -10,7 +10,8 @@ use Rattle.git_msg.specs.declared.offers.Offer.{Offer}
 use Rattle.git_msg.specs.declared.arguments.Command.{Command}
 use Rattle.git_msg.specs.declared.capability_key.Key.{Key}
 use Rattle.git_msg.specs.declared.capability_key.Key.TheVariants.{CommandKey, AgentKey}
-use Rattle.git_msg.specs.Arguments.{Word, Shape, flag_word, row, refusal_of, IsArgumentFault, IsRowFault}
+use Rattle.git_msg.specs.Arguments.{Shape, flag_word, row, refusal_of, IsArgumentFault, IsRowFault}
+use Rattle.git_msg.specs.declared.words.Word.{Word}
 use Rattle.git_msg.specs.Asked.{Asked, ls_refs, fetch, object_info}
 use Rattle.git_msg.specs.Checks.{Check, Refuses}
 use Rattle.git_msg.specs.Lines.{Line, argument_checks, capability_checks, commands_of, end_checks, flush_checks_in, has_format}

@@ -1,17 +1,23 @@
 -- A request whose prefixes are sorted, and some of them dropped: its bytes are counted as before.
-use Rattle.std.proofs.Common.{◌≡◌, ℕ, ◌+◌, ◌≤◌, ◌<◌, Bool, true, false, if◌then◌else◌, List, ◌∷◌, ◌++◌, All, length, map, ap, sym, subst, arith, append_assoc}
-use Rattle.std.specs.List.{dedup, dedup_from, sum_by}
+use Rattle.std.proofs.Common.{◌≡◌, ℕ, ◌+◌, ◌≤◌, ◌<◌, Bool, true, false, if◌then◌else◌, List, ◌∷◌, ◌++◌, All, length, map}
+use Rattle.std.proofs.Common.{ap, sym, ◌∙◌, subst, arith, take, drop}
+use Rattle.std.specs.List.{dedup, dedup_from, flat_map, sum_by}
 use Rattle.std.specs.List.Sorted.{IsPermutation}
 use Rattle.std.proofs.lemmas.List.{get_or-map, length-map}
+use Rattle.std.proofs.lemmas.Grind.{flat_map-append}
 use Rattle.std.proofs.lemmas.List.Elements.{All-append}
 use Rattle.std.proofs.lemmas.List.Sums.{sum_by-append, sum_by-cons}
 use Rattle.std.proofs.lemmas.List.Filters.{All-dedup}
 use Rattle.std.proofs.lemmas.List.Sorted.{All-permutation, IsPermutation-map, sum_by-IsPermutation}
 use Rattle.git_names.specs.declared.object_format.Format.{Format}
-use Rattle.git_msg.specs.declared.flags.Flag.{Flag}
-use Rattle.git_msg.specs.Arguments.{Arg, IsValue, ref_prefix, with_text, written_text}
-use Rattle.git_msg.specs.Asked.{LsRefsAsked, arguments_in, bytes_of, command_asked, ls_refs, where_asked}
-use Rattle.git_msg.specs.Kept.{IsCounted}
+use Rattle.git_msg.specs.Arguments.{Arg, IsInRange, with_text, words, written_text}
+use Rattle.git_msg.specs.declared.words.Word.TheVariants.{RefPrefix as ref_prefix}
+use Rattle.git_msg.specs.Asked.{bytes_of}
+use Rattle.git_msg.specs.Kept.{IsSound}
+use Rattle.git_msg.specs.Machine.ArgumentLists.{held, held_at, stored}
+use Rattle.git_msg.specs.Machine.HeldTexts.{texts_of}
+use Rattle.git_msg.specs.declared.lists.ArgumentLists.{ArgumentLists}
+use Rattle.git_msg.proofs.HeldArguments.{held_in_order}
 use Rattle.git_msg.specs.Prefixes.{Prunes, begins}
 use Rattle.git_msg.proofs.KeptBytes.{all_front, all_back}
 use Rattle.std.proofs.Common.{[], rules}
@@ -58,44 +64,63 @@ module _ (P : Arg → Type 0) (make : List ℕ → Arg) where
   all_pruned : (xs : List (List ℕ)) → All P (map make xs) → All P (map make (dedup begins xs))
   all_pruned xs h = from_made (dedup begins xs) (All-dedup begins (λ p. P (make p)) xs (to_made xs h))
 
-  all_behind : (front xs ys : List Arg) → (All P xs → All P ys) → All P (front ++ xs) → All P (front ++ ys)
-  all_behind front xs ys more h = All-append P front ys (all_front P front xs h) (more (all_back P front xs h))
-
   all_moved : (xs ys : List (List ℕ)) → IsPermutation xs ys → All P (map make xs) → All P (map make ys)
   all_moved xs ys moved = All-permutation P (map make xs) (map make ys) (IsPermutation-map make xs ys moved)
 
-  -- the same after other arguments
-  pub values_pruned : (front : List Arg) (xs ys : List (List ℕ)) → IsPermutation xs ys
-      → All P (front ++ map make xs) → All P (front ++ map make (dedup begins ys))
-  values_pruned front xs ys moved = all_behind front (map make xs) (map make (dedup begins ys)) (λ h. all_pruned ys (all_moved xs ys moved h))
+  -- the same between other arguments
+  pub values_pruned : (front back : List Arg) (xs ys : List (List ℕ)) → IsPermutation xs ys
+      → All P (front ++ (map make xs ++ back)) → All P (front ++ (map make (dedup begins ys) ++ back))
+  values_pruned front back xs ys moved h =
+      let behind : All P (map make xs ++ back) = all_back P front (map make xs ++ back) h in
+      All-append P front (map make (dedup begins ys) ++ back) (all_front P front (map make xs ++ back) h)
+      (All-append P (map make (dedup begins ys)) back (all_pruned ys (all_moved xs ys moved (all_front P (map make xs) back behind)))
+      (all_back P (map make xs) back behind))
 
-  pub bytes_pruned : (front : List Arg) (xs ys : List (List ℕ)) → IsPermutation xs ys
-      → sum_by weight (front ++ map make (dedup begins ys)) ≤ sum_by weight (front ++ map make xs)
-  bytes_pruned front xs ys moved =
-      let before = sum_by-append weight front (map make xs) in
-      let after = sum_by-append weight front (map make (dedup begins ys)) in
+  pub bytes_pruned : (front back : List Arg) (xs ys : List (List ℕ)) → IsPermutation xs ys
+      → sum_by weight (front ++ (map make (dedup begins ys) ++ back)) ≤ sum_by weight (front ++ (map make xs ++ back))
+  bytes_pruned front back xs ys moved =
+      let before = sum_by-append weight front (map make xs ++ back) in
+      let after = sum_by-append weight front (map make (dedup begins ys) ++ back) in
+      let before_behind = sum_by-append weight (map make xs) back in
+      let after_behind = sum_by-append weight (map make (dedup begins ys)) back in
       let same = sum_by-IsPermutation weight (map make xs) (map make ys) (IsPermutation-map make xs ys moved) in
       let less = less_pruned ys in
-      omega (arith, before, after, same, less)
+      omega (arith, before, after, before_behind, after_behind, same, less)
 
--- the prefixes of an ls-refs request come after its flags
-flags : LsRefsAsked → List Arg
-flags q = where_asked q.peel Flag.Peel ++ (where_asked q.symrefs Flag.Symrefs ++ where_asked q.unborn Flag.Unborn)
+module _ {A : Type 0} where
+  -- the prefixes stand between the flags of ls-refs and all other arguments
+  abbrev front_of : ArgumentLists A → List Arg
+  front_of q = flat_map (held_at q) (take 3 words)
 
-after_flags : (q : LsRefsAsked) (ps : List (List ℕ)) → arguments_in (ls_refs (record q { ref_prefixes = ps })) ≡ flags q ++ map (with_text ref_prefix) ps
-unfolding flags
-after_flags q ps = search (rules, append_assoc)
+  abbrev back_of : ArgumentLists A → List Arg
+  back_of q = flat_map (held_at q) (drop 4 words)
 
-pub counted_pruned : (format : Format) (q : LsRefsAsked) (ps : List (List ℕ)) (kept : ℕ) → Prunes q.ref_prefixes ps → IsCounted format (ls_refs q) kept
-    → IsCounted format (ls_refs (record q { ref_prefixes = ps })) kept
-counted_pruned format q ps kept prunes counted =
-    let P : Arg → Type 0 = IsValue (command_asked (ls_refs q)) format in
-    let pruned : List (List ℕ) = dedup begins prunes.moved in
-    let before : arguments_in (ls_refs q) ≡ flags q ++ map (with_text ref_prefix) q.ref_prefixes = after_flags q q.ref_prefixes in
-    let after : arguments_in (ls_refs (record q { ref_prefixes = pruned })) ≡ flags q ++ map (with_text ref_prefix) pruned = after_flags q pruned in
-    rw prunes.kept (record {
-      values = subst (All P) (sym after) (values_pruned P (with_text ref_prefix) (flags q) q.ref_prefixes prunes.moved prunes.same
-          (subst (All P) before counted.values));
-      written = let less = bytes_pruned P (with_text ref_prefix) (flags q) q.ref_prefixes prunes.moved prunes.same in
-          let written = counted.written in omega (arith, less, written, ap bytes_of before, ap bytes_of after);
-    })
+  parted : (q : ArgumentLists A) → held q ≡ front_of q ++ (map (with_text ref_prefix) (texts_of q.ref_prefixes) ++ back_of q)
+  parted q = flat_map-append (held_at q) (take 3 words) (drop 3 words)
+
+  -- the lists with other prefixes
+  module _ (q new : ArgumentLists A) (others : new ≡ record q { ref_prefixes = new.ref_prefixes })
+      (prunes : Prunes (texts_of q.ref_prefixes) (texts_of new.ref_prefixes)) where
+    abbrev pruned : List (List ℕ)
+    pruned = dedup begins prunes.moved
+
+    now : held new ≡ front_of q ++ (map (with_text ref_prefix) pruned ++ back_of q)
+    now = ap held others ∙ parted (record q { ref_prefixes = new.ref_prefixes })
+        ∙ ap (λ (ps : List (List ℕ)). front_of q ++ (map (with_text ref_prefix) ps ++ back_of q)) prunes.kept
+
+    pub sound_pruned : (format : Format) (kept limit : ℕ) → stored new ≤ stored q
+        → IsSound (record { format = format; asked = held q; kept = kept; limit = limit; stored = stored q })
+        → IsSound (record { format = format; asked = held new; kept = kept; limit = limit; stored = stored new })
+    sound_pruned format kept limit less h = record {
+      ranges = subst (All (IsInRange format)) (sym now)
+          (values_pruned (IsInRange format) (with_text ref_prefix) (front_of q) (back_of q) (texts_of q.ref_prefixes) prunes.moved prunes.same
+          (subst (All (IsInRange format)) (parted q) h.ranges));
+      in_order = held_in_order new;
+      written =
+          let fewer =
+          bytes_pruned (IsInRange format) (with_text ref_prefix) (front_of q) (back_of q) (texts_of q.ref_prefixes) prunes.moved prunes.same in
+          omega (arith, fewer, h.written, ap bytes_of (parted q), ap bytes_of now);
+      covered = omega (arith, less, h.covered);
+      space = h.space;
+      in_range = h.in_range;
+    }

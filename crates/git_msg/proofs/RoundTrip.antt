@@ -19,7 +19,9 @@ use Rattle.git_msg.specs.declared.flags.Flag.{Flag}
 use Rattle.git_msg.specs.declared.capability_key.Key.TheVariants.{AgentKey}
 use Rattle.git_msg.specs.Texts.{Follows, IsErrorText}
 use Rattle.git_msg.specs.Arguments.{Shape, flag_word, object_name, depth_number, time_number, prefix_text, kept_text, reference_name, row, MayFollow}
-use Rattle.git_msg.specs.Arguments.{Word, of_flag, Arg, Value, no_value, id_value, number_value, text_value, HasValueOf}
+use Rattle.git_msg.specs.Arguments.{Arg, Value, no_value, id_value, number_value, text_value, HasValueOf}
+use Rattle.git_msg.specs.declared.words.Word.{Word}
+use Rattle.git_msg.specs.declared.words.Word.TheVariants.{Flag as of_flag}
 use Rattle.git_msg.specs.Arguments.{HasArgumentOf, IsDepth, IsTime, IsNumberIn, IsInRange, IsNameIn, IsValue, is_offered, name_of, written_text, written_value}
 use Rattle.git_msg.specs.Capability.{is_value}
 use Rattle.git_msg.specs.Advertisement.{takes_command}
@@ -31,7 +33,7 @@ use Rattle.git_msg.specs.Machine.JudgedLine.{IsText}
 use Rattle.git_msg.specs.Checks.{Passes}
 use Rattle.git_msg.specs.Requests.{AreLines, Asks}
 use Rattle.git_msg.specs.WrittenRequest.{text_line, where_set, agent_line, format_line, argument_lines, lines_written}
-use Rattle.git_msg.proofs.ArgumentsInOrder.{arguments_in_order}
+use Rattle.git_msg.proofs.ArgumentsInOrder.{asks_for_it}
 use Rattle.git_msg.proofs.DigitValues.{decimal_reads_back}
 use Rattle.git_msg.proofs.WrittenNames.{hex_of-reads_back}
 use Rattle.git_msg.proofs.LineLaws.{names_taken}
@@ -336,7 +338,7 @@ lines_read_back offer limit writes_agent writes_format asked gs meant taken valu
     let c = command_asked asked in
     let args = arguments_in asked in
     let lines = lines_read writes_agent writes_format c args in
-    let texts : AreTexts c offer args = λ k d within. argument_reads c offer _ (values k d within) (offered k d within) in
+    let texts : AreTexts c offer args = λ k d within. argument_reads c offer _ (values.allowed k d within) (offered k d within) in
     let f = lines_finish offer limit c writes_agent writes_format args gs meant taken texts fits h in
     let conveys = lines_convey writes_agent writes_format c args in
     record {
@@ -348,7 +350,7 @@ lines_read_back offer limit writes_agent writes_format asked gs meant taken valu
       ends = f.ends;
       taken = f.taken;
       once = conveys.conveys_commands;
-      asked_is = sym (ap (asked_by c) conveys.conveys_arguments ∙ arguments_in_order asked);
+      asked_is = sym (ap (asked_by c) conveys.conveys_arguments ∙ asks_for_it asked values.in_order);
       kept_is = sym conveys.has_bytes;
       delimited = conveys.is_delimited;
     }

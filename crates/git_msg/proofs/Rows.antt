@@ -17,7 +17,9 @@ use Rattle.git_msg.specs.declared.arguments.Command.TheVariants.{Fetch}
 use Rattle.git_msg.specs.declared.flags.Flag.{Flag}
 use Rattle.git_msg.specs.declared.capability_key.Key.{Key}
 use Rattle.git_msg.specs.declared.capability_key.Key.TheVariants.{CommandKey, OtherKey}
-use Rattle.git_msg.specs.Arguments.{Word, of_flag, want, words, command_with, most_text, IsDepth, IsTime, IsNumberIn, IsNoNumberIn, IsKeptText, IsNoKeptText}
+use Rattle.git_msg.specs.Arguments.{words, command_with, most_text, IsDepth, IsTime, IsNumberIn, IsNoNumberIn, IsKeptText, IsNoKeptText}
+use Rattle.git_msg.specs.declared.words.Word.{Word}
+use Rattle.git_msg.specs.declared.words.Word.TheVariants.{Flag as of_flag, Want as want}
 use Rattle.git_msg.specs.Arguments.{Shape, flag_word, object_name, depth_number, time_number, prefix_text, kept_text, reference_name, Row, row}
 use Rattle.git_msg.specs.Arguments.{Arg, Value, no_value, id_value, number_value, text_value, refusal_of, HasValueOf, IsNoValue}
 use Rattle.git_msg.specs.Arguments.{HasArgumentOf, IsArgument, ReadsAs, IsNoArgument, IsUnoffered, IsArgumentFault, IsRowFault}

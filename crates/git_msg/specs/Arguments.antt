@@ -11,24 +11,14 @@ use Rattle.git_msg.specs.declared.arguments.Argument.{Argument}
 use Rattle.git_msg.specs.declared.arguments.Argument.TheVariants.{RefPrefix, Want, Have, Filter}
 use Rattle.git_msg.specs.declared.arguments.Argument.TheVariants.{Shallow, Deepen, DeepenSince, DeepenNot, WantRef, ObjectId}
 use Rattle.git_msg.specs.declared.flags.Flag.{Flag}
+use Rattle.git_msg.specs.declared.words.Word.{Word}
+use Rattle.git_msg.specs.declared.words.Word.TheVariants.{Flag as of_flag, RefPrefix as ref_prefix, Want as want, Have as have, Filter as filter_spec}
+use Rattle.git_msg.specs.declared.words.Word.TheVariants.{Shallow as shallow, Deepen as deepen, DeepenSince as deepen_since, DeepenNot as deepen_not}
+use Rattle.git_msg.specs.declared.words.Word.TheVariants.{WantRef as want_ref, ObjectId as object_id}
 use Rattle.git_msg.specs.declared.offers.Offer.{Offer}
 use Rattle.git_msg.specs.Flags.{IsNoFlagOf, all_flags, always, flag_row}
 use Rattle.git_msg.specs.Numbers.{IsNumber}
 use Rattle.git_msg.specs.Texts.{Follows, BeginsWithNone}
-
--- a word at the head of an argument's line: a flag, or the word before a value
-pub data Word : Type 0 where
-  of_flag : Flag → Word
-  ref_prefix : Word
-  want : Word
-  have : Word
-  filter_spec : Word
-  shallow : Word
-  deepen : Word
-  deepen_since : Word
-  deepen_not : Word
-  want_ref : Word
-  object_id : Word
 
 -- what may come after a word
 pub data Shape : Type 0 where
@@ -69,9 +59,13 @@ row object_id = entry (codes "oid ") ObjectInfo object_name always
 abbrev pub value_words : List Word
 value_words = ref_prefix ∷ want ∷ have ∷ filter_spec ∷ shallow ∷ deepen ∷ deepen_since ∷ deepen_not ∷ want_ref ∷ object_id ∷ []
 
--- all words
+-- all words, in the order in which their arguments are written
 abbrev pub words : List Word
-words = map of_flag all_flags ++ value_words
+words =
+    of_flag Flag.Peel ∷ of_flag Flag.Symrefs ∷ of_flag Flag.Unborn ∷ ref_prefix
+    ∷ of_flag Flag.ThinPack ∷ of_flag Flag.NoProgress ∷ of_flag Flag.IncludeTag ∷ of_flag Flag.OfsDelta ∷ of_flag Flag.WaitForDone ∷ filter_spec
+    ∷ shallow ∷ deepen ∷ deepen_since ∷ deepen_not ∷ of_flag Flag.DeepenRelative ∷ want ∷ want_ref ∷ have ∷ of_flag Flag.Done
+    ∷ of_flag Flag.Size ∷ object_id ∷ []
 
 -- what comes after a word
 pub data Value : Type 0 where

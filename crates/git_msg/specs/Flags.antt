@@ -33,14 +33,11 @@ flag_row Flag.Symrefs = flag_entry (codes "symrefs") LsRefs always
 flag_row Flag.Unborn = flag_entry (codes "unborn") LsRefs (λ offer. offer.unborn)
 flag_row Flag.Size = flag_entry (codes "size") ObjectInfo always
 
--- the flags of a fetch that are written before its other arguments, in order
-abbrev pub pack_flags : List Flag
-pack_flags = Flag.ThinPack ∷ Flag.NoProgress ∷ Flag.IncludeTag ∷ Flag.OfsDelta ∷ Flag.WaitForDone ∷ []
-
 -- the flags of a command, in the order in which they are written
 abbrev pub flags_of : Command → List Flag
 flags_of LsRefs = Flag.Peel ∷ Flag.Symrefs ∷ Flag.Unborn ∷ []
-flags_of Fetch = pack_flags ++ Flag.DeepenRelative ∷ Flag.Done ∷ []
+flags_of Fetch =
+    Flag.ThinPack ∷ Flag.NoProgress ∷ Flag.IncludeTag ∷ Flag.OfsDelta ∷ Flag.WaitForDone ∷ Flag.DeepenRelative ∷ Flag.Done ∷ []
 flags_of ObjectInfo = Flag.Size ∷ []
 
 -- all flags
@@ -54,20 +51,6 @@ is_flag flag other = bytes_eq (flag_row flag).text (flag_row other).text
 -- the text is no flag of the command
 abbrev pub IsNoFlagOf : Command → List ℕ → Type 0
 IsNoFlagOf command text = (flag : Flag) → (flag_row flag).command ≡ command → text ≢ (flag_row flag).text
-
--- for each of these flags, whether it is set
-abbrev pub Flags : List Flag → Type 0
-Flags [] = Unit {0}
-Flags (flag ∷ flags) = Bool × Flags flags
-
-abbrev pub flags_where : (flags : List Flag) → (Flag → Bool) → Flags flags
-flags_where [] test = tt
-flags_where (flag ∷ flags) test = (test flag, flags_where flags test)
-
--- whether the flag is among them, and set
-abbrev pub is_set : (flags : List Flag) → Flags flags → Flag → Bool
-is_set [] set flag = false
-is_set (first ∷ others) set flag = if is_flag first flag then set.0 else is_set others set.1 flag
 
 -- the index of a flag in a list
 abbrev pub place_among : List Flag → Flag → ℕ

@@ -1,12 +1,9 @@
 //! Flags: the arguments that are a word alone, and the set of them that a request has.
-ghost use Rattle.std.specs.Prelude.{◌≡◌, ◌<◌, ◌≤◌, ◌==◌, ◌||◌, ℕ, List, Some, MatchOption, MatchResult, false, get_or, length, slice_get};
-ghost use Rattle.git_msg.specs.Arguments.{Arg, alone, of_flag};
-ghost use Rattle.git_msg.specs.Asked.{flag_arguments, joined};
+ghost use Rattle.std.specs.Prelude.{◌≡◌, ◌<◌, ◌≤◌, ◌==◌, ◌||◌, ℕ, MatchOption, false, get_or, length};
 ghost use Rattle.git_msg.specs.Flags.{IsNoFlagOf, flag_row, flags_of, is_held, place_of};
 
 use crate::arguments::Command;
 use crate::offers::Offer;
-use crate::parts::past_flag;
 use crate::texts::is_word;
 
 /// An argument that is a word alone.
@@ -39,15 +36,6 @@ pub enum Flag {
 // At least as many places as there are flags.
 const PLACES: usize = 16;
 
-/// The flags of `fetch` that are written before its other arguments, in order.
-pub(crate) const PACK_FLAGS: &[Flag] = &[
-    Flag::ThinPack,
-    Flag::NoProgress,
-    Flag::IncludeTag,
-    Flag::OfsDelta,
-    Flag::WaitForDone,
-];
-
 const FETCH_FLAGS: &[Flag] = &[
     Flag::ThinPack,
     Flag::NoProgress,
@@ -58,11 +46,11 @@ const FETCH_FLAGS: &[Flag] = &[
     Flag::Done,
 ];
 
-/// The flags of `ls-refs`, in the order in which they are written.
-pub(crate) const LS_REFS_FLAGS: &[Flag] = &[Flag::Peel, Flag::Symrefs, Flag::Unborn];
+// The flags of `ls-refs`, in the order in which they are written.
+const LS_REFS_FLAGS: &[Flag] = &[Flag::Peel, Flag::Symrefs, Flag::Unborn];
 
-/// The flags of `object-info`.
-pub(crate) const OBJECT_INFO_FLAGS: &[Flag] = &[Flag::Size];
+// The flags of `object-info`.
+const OBJECT_INFO_FLAGS: &[Flag] = &[Flag::Size];
 
 impl Flag {
     /// The flag's text, as it is written.
@@ -168,21 +156,5 @@ impl FlagSet {
         ensures { (place : ℕ) → get_or self.new.set place false ≡ ((place == place_of flag) || get_or self.old.set place false) }
     {
         self.set[flag.place()] = true;
-    }
-
-    /// The flag at index `i` of those of this order that are set; otherwise the index after them.
-    pub(crate) fn at(&self, order: &[Flag], i: usize) -> Result<Flag, usize>
-        ensures { MatchResult result
-            (λ flag. (others : List Arg) → slice_get (joined (flag_arguments (is_held self.now) order.now) others) i ≡ Some (alone (of_flag flag)))
-            (λ next. (others : List Arg) → slice_get (joined (flag_arguments (is_held self.now) order.now) others) i ≡ slice_get others next) }
-    {
-        let mut left = i;
-        for flag in order {
-            match past_flag(self.has(*flag), left) {
-                Some(next) => left = next,
-                None => return Ok(*flag),
-            }
-        }
-        Err(left)
     }
 }

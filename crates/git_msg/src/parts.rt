@@ -3,7 +3,9 @@ ghost use Rattle.std.specs.Prelude.{◌≡◌, ◌≢◌, ◌+◌, ◌*◌, ◌^
 ghost use Rattle.std.specs.Prelude.{MatchResult};
 ghost use Rattle.std.specs.Prelude.{true, false, length, map, slice_get, slice_index, All};
 ghost use Rattle.std.specs.Option.{option_copied};
-ghost use Rattle.git_msg.specs.Arguments.{Arg, IsNameIn, Word, alone, of_flag, with_id, with_number, with_text};
+ghost use Rattle.git_msg.specs.Arguments.{Arg, IsNameIn, alone, with_id, with_number, with_text};
+ghost use Rattle.git_msg.specs.declared.words.Word.{Word};
+ghost use Rattle.git_msg.specs.declared.words.Word.TheVariants.{Flag as of_flag};
 ghost use Rattle.git_msg.specs.declared.flags.Flag.{Flag};
 ghost use Rattle.git_msg.specs.Asked.{where_asked, where_given};
 ghost use Rattle.std.proofs.Props.{props};

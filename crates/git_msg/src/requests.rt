@@ -5,16 +5,19 @@ ghost use Rattle.git_names.specs.ObjectName.{hex_of};
 ghost use Rattle.git_names.specs.RefName.{IsRefName};
 ghost use Rattle.git_pkt.specs.Packets.{longest_payload};
 ghost use Rattle.git_msg.specs.Arguments.{HasName, most_text, shown, written_text};
+ghost use Rattle.git_msg.specs.declared.flags.Flag.{Flag};
 
 use crate::arguments::{Argument, Command, check_value, is_offered, is_ref_name, put_together};
 use crate::fetch::Fetch;
 use crate::flags::Flag;
+use crate::kept::KeptArguments;
 use crate::limits::Limits;
 use crate::ls_refs::LsRefs;
 use crate::memory::Memory;
 use crate::numbers::decimal_length;
 use crate::object_info::ObjectInfo;
 use crate::offers::Offer;
+use crate::words::Word;
 use git_names::{Format, Oid, Steps};
 use git_pkt::Kind;
 use std::alloc::Allocator;
@@ -32,12 +35,13 @@ pub enum Request<A: Allocator + Copy> {
 
 impl<A: Allocator + Copy> Request<A> {
     ghost use Rattle.git_msg.specs.Arguments.{IsValueFault};
-    ghost use Rattle.git_msg.specs.Asked.{arguments_in, has_flag, symrefs_of, peel_of, unborn_of, ref_prefixes_of, wants_of, haves_of, done_of, thin_pack_of};
-    ghost use Rattle.git_msg.specs.Asked.{no_progress_of, include_tag_of, ofs_delta_of, written_bytes, HasValues};
-    ghost use Rattle.git_msg.specs.Asked.{AreOffered, shallows_of, deepen_of, deepen_relative_of, deepen_since_of, deepen_nots_of, want_refs_of};
-    ghost use Rattle.git_msg.specs.Asked.{size_of, oids_of, wait_for_done_of, filters_of};
+    ghost use Rattle.git_msg.specs.Asked.{arguments_in, has_flag, ref_prefixes_of, wants_of, haves_of};
+    ghost use Rattle.git_msg.specs.Asked.{written_bytes, HasValues};
+    ghost use Rattle.git_msg.specs.Asked.{AreOffered, shallows_of, deepen_of, deepen_since_of, deepen_nots_of, want_refs_of};
+    ghost use Rattle.git_msg.specs.Asked.{oids_of, filters_of};
     ghost use Rattle.git_msg.specs.Checks.{Passes, Refuses};
     ghost use Rattle.git_msg.specs.Lines.{end_checks};
+    ghost use Rattle.git_msg.specs.Kept.{AreOf};
     ghost use Rattle.git_msg.specs.Machine.HeldRequest.{IsEmpty, asked_of, command_of, format_of, kept_of, limit_of, stored_of};
 
     /// A request without arguments. Later calls take memory from `alloc`, but only to keep an argument with a text or an
@@ -49,6 +53,22 @@ impl<A: Allocator + Copy> Request<A> {
             Command::LsRefs => Request::LsRefs(LsRefs::new(alloc, format, limits)),
             Command::Fetch => Request::Fetch(Fetch::new(alloc, format, limits)),
             Command::ObjectInfo => Request::ObjectInfo(ObjectInfo::new(alloc, format, limits)),
+        }
+    }
+
+    // What is kept of it, whatever its command.
+    fn arguments(&self) -> &KeptArguments<A>
+        ensures format { format_of self.now ≡ result.now.format }
+        ensures asked { arguments_in (asked_of self.now) ≡ result.now.asked }
+        ensures kept { kept_of self.now ≡ result.now.kept }
+        ensures limit { limit_of self.now ≡ result.now.limit }
+        ensures stored { stored_of self.now ≡ result.now.stored }
+        ensures own { AreOf (command_of self.now) result.now.asked }
+    {
+        match self {
+            Request::LsRefs(request) => request.arguments(),
+            Request::Fetch(request) => request.arguments(),
+            Request::ObjectInfo(request) => request.arguments(),
         }
     }
 
@@ -108,11 +128,7 @@ impl<A: Allocator + Copy> Request<A> {
     pub fn format(&self) -> Format
         ensures { result ≡ format_of self.now }
     {
-        match self {
-            Request::LsRefs(request) => request.format(),
-            Request::Fetch(request) => request.format(),
-            Request::ObjectInfo(request) => request.format(),
-        }
+        self.arguments().format()
     }
 
     /// How many bytes the texts of the request's argument lines have, all of them together: as they came, if they were read,
@@ -128,52 +144,40 @@ impl<A: Allocator + Copy> Request<A> {
         ensures written { written_bytes (asked_of self.now) ≤ kept_of self.now }
         ensures values { HasValues (format_of self.now) (asked_of self.now) }
     {
-        match self {
-            Request::LsRefs(request) => request.kept(),
-            Request::Fetch(request) => request.kept(),
-            Request::ObjectInfo(request) => request.kept(),
-        }
+        self.arguments().kept()
     }
 
     /// How many bytes those texts may have.
     pub(crate) fn limits(&self) -> Limits
         ensures { result.args ≡ limit_of self.now }
     {
-        match self {
-            Request::LsRefs(request) => request.limits(),
-            Request::Fetch(request) => request.limits(),
-            Request::ObjectInfo(request) => request.limits(),
-        }
+        self.arguments().limits()
     }
 
     /// Whether the request has the flag. It has no flag of another command.
     pub fn has(&self, flag: Flag) -> bool
         ensures { result ≡ has_flag flag (asked_of self.now) }
     {
-        match self {
-            Request::LsRefs(request) => request.has(flag),
-            Request::Fetch(request) => request.has(flag),
-            Request::ObjectInfo(request) => request.has(flag),
-        }
+        self.arguments().has(flag)
     }
 
     /// The flag `symrefs` of `ls-refs`.
     pub fn symrefs(&self) -> bool
-        ensures { result ≡ symrefs_of (asked_of self.now) }
+        ensures { result ≡ has_flag Flag.Symrefs (asked_of self.now) }
     {
         self.has(Flag::Symrefs)
     }
 
     /// The flag `peel` of `ls-refs`.
     pub fn peel(&self) -> bool
-        ensures { result ≡ peel_of (asked_of self.now) }
+        ensures { result ≡ has_flag Flag.Peel (asked_of self.now) }
     {
         self.has(Flag::Peel)
     }
 
     /// The flag `unborn` of `ls-refs`.
     pub fn unborn(&self) -> bool
-        ensures { result ≡ unborn_of (asked_of self.now) }
+        ensures { result ≡ has_flag Flag.Unborn (asked_of self.now) }
     {
         self.has(Flag::Unborn)
     }
@@ -184,70 +188,61 @@ impl<A: Allocator + Copy> Request<A> {
         ensures bound { OnSome result (i + 1 < 2 ^ 64) }
         ensures fits { IfSome result (λ prefix. length prefix.now ≤ most_text) }
     {
-        match self {
-            Request::LsRefs(request) => request.ref_prefix(i),
-            Request::Fetch(_) | Request::ObjectInfo(_) => None,
-        }
+        self.arguments().text(Word::RefPrefix, i)
     }
 
     /// The objects of the `want` lines of `fetch`, in order.
     pub fn wants(&self) -> &[Oid]
         ensures { result.now ≡ wants_of (asked_of self.now) }
     {
-        match self {
-            Request::LsRefs(_) | Request::ObjectInfo(_) => &[],
-            Request::Fetch(request) => request.wants(),
-        }
+        self.arguments().ids(Word::Want)
     }
 
     /// The objects of the `have` lines of `fetch`, in order.
     pub fn haves(&self) -> &[Oid]
         ensures { result.now ≡ haves_of (asked_of self.now) }
     {
-        match self {
-            Request::LsRefs(_) | Request::ObjectInfo(_) => &[],
-            Request::Fetch(request) => request.haves(),
-        }
+        self.arguments().ids(Word::Have)
     }
 
     /// The flag `done` of `fetch`.
     pub fn done(&self) -> bool
-        ensures { result ≡ done_of (asked_of self.now) }
+        ensures { result ≡ has_flag Flag.Done (asked_of self.now) }
     {
         self.has(Flag::Done)
     }
 
     /// The flag `thin-pack` of `fetch`.
     pub fn thin_pack(&self) -> bool
-        ensures { result ≡ thin_pack_of (asked_of self.now) }
+        ensures { result ≡ has_flag Flag.ThinPack (asked_of self.now) }
     {
         self.has(Flag::ThinPack)
     }
 
     /// The flag `no-progress` of `fetch`.
     pub fn no_progress(&self) -> bool
-        ensures { result ≡ no_progress_of (asked_of self.now) }
+        ensures { result ≡ has_flag Flag.NoProgress (asked_of self.now) }
     {
         self.has(Flag::NoProgress)
     }
 
     /// The flag `include-tag` of `fetch`.
     pub fn include_tag(&self) -> bool
-        ensures { result ≡ include_tag_of (asked_of self.now) }
+        ensures { result ≡ has_flag Flag.IncludeTag (asked_of self.now) }
     {
         self.has(Flag::IncludeTag)
     }
 
     /// The flag `ofs-delta` of `fetch`.
     pub fn ofs_delta(&self) -> bool
-        ensures { result ≡ ofs_delta_of (asked_of self.now) }
+        ensures { result ≡ has_flag Flag.OfsDelta (asked_of self.now) }
     {
         self.has(Flag::OfsDelta)
     }
 
     /// The flag `wait-for-done` of `fetch`.
     pub fn wait_for_done(&self) -> bool
-        ensures { result ≡ wait_for_done_of (asked_of self.now) }
+        ensures { result ≡ has_flag Flag.WaitForDone (asked_of self.now) }
     {
         self.has(Flag::WaitForDone)
     }
@@ -256,35 +251,26 @@ impl<A: Allocator + Copy> Request<A> {
     pub fn filter(&self, i: usize) -> Option<&[u8]>
         ensures { option_copied result ≡ slice_get (filters_of (asked_of self.now)) i }
     {
-        match self {
-            Request::LsRefs(_) | Request::ObjectInfo(_) => None,
-            Request::Fetch(request) => request.filter(i),
-        }
+        self.arguments().text(Word::Filter, i)
     }
 
     /// The commits of the `shallow` lines of `fetch`, in order.
     pub fn shallows(&self) -> &[Oid]
         ensures { result.now ≡ shallows_of (asked_of self.now) }
     {
-        match self {
-            Request::LsRefs(_) | Request::ObjectInfo(_) => &[],
-            Request::Fetch(request) => request.shallows(),
-        }
+        self.arguments().ids(Word::Shallow)
     }
 
     /// How much of the history is wanted, in commits: the number of the last `deepen` line of `fetch`.
     pub fn deepen(&self) -> Option<u64>
         ensures { result ≡ deepen_of (asked_of self.now) }
     {
-        match self {
-            Request::LsRefs(_) | Request::ObjectInfo(_) => None,
-            Request::Fetch(request) => request.deepen(),
-        }
+        self.arguments().number(Word::Deepen)
     }
 
     /// The flag `deepen-relative` of `fetch`.
     pub fn deepen_relative(&self) -> bool
-        ensures { result ≡ deepen_relative_of (asked_of self.now) }
+        ensures { result ≡ has_flag Flag.DeepenRelative (asked_of self.now) }
     {
         self.has(Flag::DeepenRelative)
     }
@@ -293,20 +279,14 @@ impl<A: Allocator + Copy> Request<A> {
     pub fn deepen_since(&self) -> Option<u64>
         ensures { result ≡ deepen_since_of (asked_of self.now) }
     {
-        match self {
-            Request::LsRefs(_) | Request::ObjectInfo(_) => None,
-            Request::Fetch(request) => request.deepen_since(),
-        }
+        self.arguments().number(Word::DeepenSince)
     }
 
     /// The text of the `deepen-not` line at index `i` of `fetch`.
     pub fn deepen_not(&self, i: usize) -> Option<&[u8]>
         ensures { option_copied result ≡ slice_get (deepen_nots_of (asked_of self.now)) i }
     {
-        match self {
-            Request::LsRefs(_) | Request::ObjectInfo(_) => None,
-            Request::Fetch(request) => request.deepen_not(i),
-        }
+        self.arguments().text(Word::DeepenNot, i)
     }
 
     /// The name of the `want-ref` line at index `i` of `fetch`.
@@ -315,15 +295,12 @@ impl<A: Allocator + Copy> Request<A> {
         ensures bound { OnSome result (i + 1 < 2 ^ 64) }
         ensures name { IfSome result (λ name. IsRefName name.now) }
     {
-        match self {
-            Request::LsRefs(_) | Request::ObjectInfo(_) => None,
-            Request::Fetch(request) => request.want_ref(i),
-        }
+        self.arguments().text(Word::WantRef, i)
     }
 
     /// The flag `size` of `object-info`.
     pub fn size(&self) -> bool
-        ensures { result ≡ size_of (asked_of self.now) }
+        ensures { result ≡ has_flag Flag.Size (asked_of self.now) }
     {
         self.has(Flag::Size)
     }
@@ -332,10 +309,7 @@ impl<A: Allocator + Copy> Request<A> {
     pub fn oids(&self) -> &[Oid]
         ensures { result.now ≡ oids_of (asked_of self.now) }
     {
-        match self {
-            Request::LsRefs(_) | Request::Fetch(_) => &[],
-            Request::ObjectInfo(request) => request.oids(),
-        }
+        self.arguments().ids(Word::ObjectId)
     }
 
     /// The argument at index `i`, in the order in which they are written.
@@ -344,11 +318,7 @@ impl<A: Allocator + Copy> Request<A> {
         ensures bound { OnSome result (i + 1 < 2 ^ 64) }
         ensures fits { IfSome result (λ argument. length (written_text (shown argument)) < longest_payload) }
     {
-        match self {
-            Request::LsRefs(request) => request.argument(i),
-            Request::Fetch(request) => request.argument(i),
-            Request::ObjectInfo(request) => request.argument(i),
-        }
+        self.arguments().argument(i)
     }
 
     // Whether the argument's name is a reference name, if it requests a reference by name.

@@ -3,7 +3,8 @@ use Rattle.std.proofs.Common.{◌≡◌, ℕ, ◌≤◌, true, Some, List, [], �
 use Rattle.git_pkt.specs.Packets.{flush}
 use Rattle.git_pkt.specs.declared.fault.Kind.TheVariants.{UnknownCommand}
 use Rattle.git_msg.specs.Advertisement.{takes_command}
-use Rattle.git_msg.specs.Arguments.{name_of, ReadsAs, alone, of_flag, want, with_id}
+use Rattle.git_msg.specs.Arguments.{name_of, ReadsAs, alone, with_id}
+use Rattle.git_msg.specs.declared.words.Word.TheVariants.{Flag as of_flag, Want as want}
 use Rattle.git_msg.specs.Lines.{HasFault, key_by, IsLine, Line, agent, argument, command, delimiter}
 use Rattle.git_msg.specs.Requests.{AreLines, Asks}
 use Rattle.git_msg.specs.Asked.{fetch, ls_refs}

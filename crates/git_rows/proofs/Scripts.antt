@@ -1,6 +1,7 @@
 -- The lines of a script with one request.
 use Rattle.std.proofs.Common.{[], ◌∷◌, true, codes, refl, arith}
-use Rattle.git_msg.specs.Arguments.{alone, of_flag}
+use Rattle.git_msg.specs.Arguments.{alone}
+use Rattle.git_msg.specs.declared.words.Word.TheVariants.{Flag as of_flag}
 use Rattle.git_msg.specs.declared.arguments.Command.TheVariants.{LsRefs}
 use Rattle.git_msg.specs.declared.flags.Flag.{Flag}
 use Rattle.git2show_lib.specs.Scripts.{IsScript, argument, blank, command}

@@ -2,8 +2,11 @@
 
 ghost use Rattle.std.specs.Prelude.{◌≡◌, ◌≢◌, ◌++◌, ◌∷◌, [], Some, None, codes, decimal};
 ghost use Rattle.git_msg.specs.Advertisement.{everything, nothing};
-ghost use Rattle.git_msg.specs.Arguments.{IsArgumentFault, ReadsAs, alone, of_flag, want, want_ref, with_id, with_number, with_text};
-ghost use Rattle.git_msg.specs.Arguments.{deepen, deepen_not, deepen_since, filter_spec, have, object_id, ref_prefix, shallow};
+ghost use Rattle.git_msg.specs.Arguments.{IsArgumentFault, ReadsAs, alone, with_id, with_number, with_text};
+ghost use Rattle.git_msg.specs.declared.words.Word.TheVariants.{Flag as of_flag, Want as want, WantRef as want_ref};
+ghost use Rattle.git_msg.specs.declared.words.Word.TheVariants.{Deepen as deepen, DeepenNot as deepen_not};
+ghost use Rattle.git_msg.specs.declared.words.Word.TheVariants.{DeepenSince as deepen_since, Filter as filter_spec, Have as have};
+ghost use Rattle.git_msg.specs.declared.words.Word.TheVariants.{ObjectId as object_id, RefPrefix as ref_prefix, Shallow as shallow};
 ghost use Rattle.git_msg.specs.Capability.{IsCapability, IsNoCapability};
 ghost use Rattle.git_msg.specs.declared.arguments.Command.TheVariants.{Fetch, LsRefs, ObjectInfo};
 ghost use Rattle.git_msg.specs.declared.flags.Flag.TheVariants.{Done, Peel, Size, Unborn};

@@ -11,7 +11,9 @@ use Rattle.git_msg.specs.declared.offers.Offer.{Offer}
 use Rattle.git_msg.specs.declared.arguments.Command.{Command}
 use Rattle.git_msg.specs.declared.arguments.Command.TheVariants.{LsRefs, Fetch, ObjectInfo}
 use Rattle.git_msg.specs.Admission.{AreAdmitted, IsAdmitted, IsAnnouncedFor}
-use Rattle.git_msg.specs.Arguments.{Arg, Value, Word, id_value, of_flag, text_value, want, want_ref}
+use Rattle.git_msg.specs.Arguments.{Arg, Value, id_value, text_value}
+use Rattle.git_msg.specs.declared.words.Word.{Word}
+use Rattle.git_msg.specs.declared.words.Word.TheVariants.{Flag as of_flag, Want as want, WantRef as want_ref}
 use Rattle.git_msg.specs.declared.flags.Flag.{Flag}
 use Rattle.git_msg.specs.Asked.{Asked, asked_by, id_in, text_in}
 use Rattle.git_msg.specs.Lines.{Line, arguments_of}

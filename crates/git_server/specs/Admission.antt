@@ -3,8 +3,10 @@ use Rattle.std.specs.Prelude.{◌≡◌, ◌≢◌, if◌then◌else◌, true, A
 use Rattle.git_names.specs.ObjectName.{ObjectName}
 use Rattle.git_pkt.specs.declared.fault.Kind.{Kind}
 use Rattle.git_pkt.specs.declared.fault.Kind.TheVariants.{NotOurs, UnknownRef}
-use Rattle.git_msg.specs.Arguments.{Arg, Value, Word, id_value, text_value, want, want_ref}
-use Rattle.git_msg.specs.Asked.{Asked, ls_refs, fetch, object_info}
+use Rattle.git_msg.specs.Arguments.{Arg, Value, id_value, text_value}
+use Rattle.git_msg.specs.declared.words.Word.{Word}
+use Rattle.git_msg.specs.declared.words.Word.TheVariants.{Want as want, WantRef as want_ref}
+use Rattle.git_msg.specs.Asked.{Asked, ls_refs, fetch, object_info, want_refs_in, wants_in}
 use Rattle.git_server.specs.Repository.{Repository, found_ref}
 
 -- the name of the error that refuses a reference, if the reference is not found
@@ -26,4 +28,4 @@ barred repo arg = barred_value repo arg.word arg.value
 abbrev pub HasAsked : Repository → Asked → Type 0
 HasAsked repo (ls_refs q) = Unit {0}
 HasAsked repo (object_info q) = Unit {0}
-HasAsked repo (fetch q) = All (λ id. repo.has id ≡ true) q.wants × All (λ name. found_ref repo.refs name ≢ None) q.want_refs
+HasAsked repo (fetch q) = All (λ id. repo.has id ≡ true) (wants_in q) × All (λ name. found_ref repo.refs name ≢ None) (want_refs_in q)

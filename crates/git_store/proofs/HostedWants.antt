@@ -12,8 +12,10 @@ use Rattle.git_pkt.specs.declared.fault.Kind.{Kind}
 use Rattle.git_pkt.specs.declared.fault.Kind.TheVariants.{NotOurs, PackSource, UnknownRef}
 use Rattle.git_msg.specs.declared.offers.Offer.{Offer}
 use Rattle.git_msg.specs.Admission.{AreAdmitted, IsAdmitted, IsBarred}
-use Rattle.git_msg.specs.Arguments.{Arg, Value, Word, id_value, text_value, want, want_ref}
-use Rattle.git_msg.specs.Asked.{Asked, FetchAsked, asked_by, fetch, id_in, ls_refs, object_info, wants_of}
+use Rattle.git_msg.specs.Arguments.{Arg, Value, id_value, text_value}
+use Rattle.git_msg.specs.declared.words.Word.{Word}
+use Rattle.git_msg.specs.declared.words.Word.TheVariants.{Want as want, WantRef as want_ref}
+use Rattle.git_msg.specs.Asked.{Asked, asked_by, fetch, id_in, ls_refs, object_info, wants_of, want_refs_in, wants_in}
 use Rattle.git_msg.specs.declared.arguments.Command.{Command}
 use Rattle.git_msg.specs.declared.arguments.Command.TheVariants.{LsRefs, Fetch, ObjectInfo}
 use Rattle.git_msg.specs.Lines.{Line, argument_in, arguments_of}
@@ -53,13 +55,13 @@ each_found P h (x ∷ xs) all =
 
 not_had : (repo : Repository) (kind : Kind) (q : Asked) (f : Facts) → IsLackedByRepository repo kind q f → HasAsked repo q → ⊥
 not_had repo NotOurs (fetch q) (of_fetch a t) (lacks, (more, cut), found) (had, refs) =
-    let all = All-map (λ (b : Bool). b ≡ true) repo.has q.wants had in
+    let all = All-map (λ (b : Bool). b ≡ true) repo.has (wants_in q) had in
     let here = subst (λ (bs : List Bool). All (λ b. b ≡ true) bs)
-    (cut ∙ ap (λ (l : List Bool). l ++ more) lacks.wants ∙ append_assoc (all_there (take lacks.at q.wants)) (false ∷ []) more) all in
-    let both = holds_at (λ (b : Bool). b ≡ true) (all_there (take lacks.at q.wants)) false more here in
+    (cut ∙ ap (λ (l : List Bool). l ++ more) lacks.wants ∙ append_assoc (all_there (take lacks.at (wants_in q))) (false ∷ []) more) all in
+    let both = holds_at (λ (b : Bool). b ≡ true) (all_there (take lacks.at (wants_in q))) false more here in
     absurd (cc)
 not_had repo UnknownRef (fetch q) (of_fetch a t) (lacks, wants, (more, cut)) (had, refs) =
-    let all = All-map (λ (o : Option ObjectName). o ≢ None) (found_ref repo.refs) q.want_refs refs in
+    let all = All-map (λ (o : Option ObjectName). o ≢ None) (found_ref repo.refs) (want_refs_in q) refs in
     let here = subst (λ (os : List (Option ObjectName)). All (λ o. o ≢ None) os)
     (cut ∙ ap (λ (l : List (Option ObjectName)). l ++ more) lacks.found ∙ append_assoc (map Some lacks.ids) (None ∷ []) more) all in
     holds_at (λ (o : Option ObjectName). o ≢ None) (map Some lacks.ids) None more here refl
@@ -98,7 +100,7 @@ value_of_reference repo want (id_value id) kind is had = absurd (barred_had (rep
 value_of_reference repo want_ref (text_value name) kind is had = barred_name (found_ref repo.refs name) kind is
 value_of_reference repo word value kind is had = absurd (cc)
 
-wants_among : (q : FetchAsked) (c : Command) (args : List Arg) → fetch q ≡ asked_by c args → q.wants ≡ filter_map (id_in want) args
+wants_among : (q : List Arg) (c : Command) (args : List Arg) → fetch q ≡ asked_by c args → (wants_in q) ≡ filter_map (id_in want) args
 wants_among q LsRefs args same = absurd (cc)
 wants_among q Fetch args same = ap wants_of same
 wants_among q ObjectInfo args same = absurd (cc)
@@ -108,7 +110,7 @@ name_at_line : (repo : Repository) (kind : Kind) (q : Asked) (f : Facts) (c : Co
     → (name ≡ kind) ⊎ (name ≡ UnknownRef)
 name_at_line repo NotOurs q f c args arg name lacks same there refuses = value_name repo arg.word arg.value name refuses
 name_at_line repo UnknownRef (fetch q) (of_fetch a t) c args arg name (lacks, (more, cut), found) same there refuses =
-    let had = has_all repo.has q.wants more (cut ∙ ap (λ (l : List Bool). l ++ more) lacks.there) in
+    let had = has_all repo.has (wants_in q) more (cut ∙ ap (λ (l : List Bool). l ++ more) lacks.there) in
     let among = subst (All (λ (id : ObjectName). repo.has id ≡ true)) (wants_among q c args same) had in
     inr (value_of_reference repo arg.word arg.value name refuses
     (there (λ x. IfSome (id_in want x) (λ id. repo.has id ≡ true)) (each_found (λ (id : ObjectName). repo.has id ≡ true) (id_in want) args among)))
@@ -231,7 +233,7 @@ some_more (y ∷ xs) x is = cc
 
 no_text : (q : Asked) (f : Facts) (repo : Repository) → IsLackedByRepository repo NotOurs q f → f ≡ nothing_for q → ⊥
 no_text (fetch q) f repo lacks is =
-    let none = subst (IsLackedByRepository repo NotOurs (fetch q)) is lacks in some_more (all_there (take none.0.at q.wants)) false none.0.wants
+    let none = subst (IsLackedByRepository repo NotOurs (fetch q)) is lacks in some_more (all_there (take none.0.at (wants_in q))) false none.0.wants
 no_text (ls_refs q) f repo lacks is = absurd (subst (IsLackedByRepository repo NotOurs (ls_refs q)) is lacks)
 no_text (object_info q) f repo lacks is = absurd (subst (IsLackedByRepository repo NotOurs (object_info q)) is lacks)
 

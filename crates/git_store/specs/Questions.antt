@@ -5,7 +5,7 @@ use Rattle.git_names.specs.ObjectName.{ObjectName}
 use Rattle.git_names.specs.NameBytes.{name_bytes}
 use Rattle.git_names.specs.RefName.{IsRefName}
 use Rattle.git_msg.specs.declared.Boundary.{Boundary}
-use Rattle.git_msg.specs.Asked.{Asked, FetchAsked, fetch, ls_refs, haves_of, oids_of, want_refs_of, wants_of}
+use Rattle.git_msg.specs.Asked.{Asked, fetch, ls_refs, haves_of, oids_of, want_refs_of, wants_of}
 use Rattle.git_server.specs.Repository.{Entry}
 use Rattle.git_store.specs.declared.store.Part.{Part}
 use Rattle.git_store.specs.declared.store.Part.TheVariants as Parts
@@ -17,6 +17,7 @@ use Rattle.git_host.specs.declared.report.Need.TheVariants.{Boundary as NeedBoun
 use Rattle.git_host.specs.declared.report.Report.{Report}
 use Rattle.git_host.specs.declared.report.Report.TheVariants.{Want, WantRef, Have, Ready, Boundary as BoundaryLine, BoundaryEnd, Pack, Progress}
 use Rattle.git_host.specs.declared.report.Report.TheVariants.{PackEnd, Reference, Unborn, ReferencesEnd, Size}
+use Rattle.git_msg.specs.Arguments.{Arg}
 
 -- what a store is asked: whether the client may have the object, the object of the reference, whether it has the object, whether it is ready
 -- to send a pack, the next line of the boundary, the next of the pack, the next of the references, and the size of the object
@@ -24,9 +25,9 @@ pub data Question : Type 0 where
   ask_want : ObjectName → Question
   ask_want_ref : List ℕ → Question
   ask_have : ObjectName → Question
-  ready : FetchAsked → Question
-  ask_boundary : FetchAsked → Question
-  ask_pack : FetchAsked → Question
+  ready : List Arg → Question
+  ask_boundary : List Arg → Question
+  ask_pack : List Arg → Question
   ask_reference : Question
   ask_size : ObjectName → Question
 

@@ -1,7 +1,7 @@
 -- Sessions over a store that answers as a repository does: what its moves and its packs have to be.
 use Rattle.std.specs.Prelude.{◌≡◌, ℕ, Bool, true, false, List, [], ◌∷◌, length, Some}
 use Rattle.git_pkt.specs.Splits.{Given}
-use Rattle.git_msg.specs.Asked.{Asked, FetchAsked, fetch}
+use Rattle.git_msg.specs.Asked.{Asked, fetch}
 use Rattle.git_msg.specs.Machine.RequestStreams.{AreAsked}
 use Rattle.git_server.specs.FetchAnswers.{is_ready_for, negotiates}
 use Rattle.git_server.specs.Repository.{IsRising, RepoState, Repository}
@@ -14,6 +14,7 @@ use Rattle.git_store.specs.RepoReplies.{BeginsAnew, RepliesAs, answers_of}
 use Rattle.git_store.specs.StoreMoves.{AllMade, Move, facts_after, used_in}
 use Rattle.git_host.specs.declared.host_server.HostServer.{HostServer}
 use Rattle.git_store.specs.declared.repo_store.RepoStore.{RepoStore}
+use Rattle.git_msg.specs.Arguments.{Arg}
 
 -- whether the store received the last request, where these facts begin with bytes that were used: not one that has just come
 abbrev pub received_after : Bool → List Facts → Bool
@@ -21,7 +22,7 @@ received_after received [] = received
 received_after received (f ∷ fs) = false
 
 -- the pack that was reported for a fetch is the repository's, and where none follows the repository is not ready to send one
-pub record IsPackedAs (repo : Repository) (q : FetchAsked) (t : FetchFacts) : Type 0 where
+pub record IsPackedAs (repo : Repository) (q : List Arg) (t : FetchFacts) : Type 0 where
   pub unready : negotiates q ≡ true → is_ready q t ≡ false → is_ready_for repo q ≡ false
   pub pack : sends_pack q t ≡ true → t.pack ≡ repo.pack q
 

@@ -1,6 +1,7 @@
 use Rattle.std.proofs.Common.{rules, refl, inr}
 use Rattle.std.proofs.lemmas.Result.{err_from_is_err_and}
-use Rattle.git_msg.specs.Arguments.{want, have, shallow, deepen, deepen_since, deepen_not, want_ref, filter_spec}
+use Rattle.git_msg.specs.declared.words.Word.TheVariants.{Want as want, Have as have, Shallow as shallow, Deepen as deepen, DeepenSince as deepen_since}
+use Rattle.git_msg.specs.declared.words.Word.TheVariants.{DeepenNot as deepen_not, WantRef as want_ref, Filter as filter_spec}
 use Rattle.git_msg.proofs.arguments.read_fetch_value.Goals as goal
 
 pub returns-then-not-is_kept_text-clause-argument : goal.returns-then-not-is_kept_text-clause-argument

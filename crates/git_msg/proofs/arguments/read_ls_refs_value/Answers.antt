@@ -1,5 +1,5 @@
 use Rattle.std.proofs.Common.{rules, refl, inr}
-use Rattle.git_msg.specs.Arguments.{ref_prefix}
+use Rattle.git_msg.specs.declared.words.Word.TheVariants.{RefPrefix as ref_prefix}
 use Rattle.git_msg.proofs.arguments.read_ls_refs_value.Goals as goal
 
 pub returns-then-prefix-gt-MOST_TEXT-clause-argument : goal.returns-then-prefix-gt-MOST_TEXT-clause-argument

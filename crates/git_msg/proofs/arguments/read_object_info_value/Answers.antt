@@ -1,6 +1,6 @@
 use Rattle.std.proofs.Common.{rules, refl, inr}
 use Rattle.std.proofs.lemmas.Result.{err_from_is_err_and}
-use Rattle.git_msg.specs.Arguments.{object_id}
+use Rattle.git_msg.specs.declared.words.Word.TheVariants.{ObjectId as object_id}
 use Rattle.git_msg.proofs.arguments.read_object_info_value.Goals as goal
 
 pub returns-in_err-id-clause-argument : goal.returns-in_err-id-clause-argument

@@ -1,5 +1,7 @@
 use Rattle.std.proofs.Common.{[], codes, refl, arith, inl, inr}
-use Rattle.git_msg.specs.Arguments.{alone, deepen, deepen_not, deepen_since, of_flag, want, want_ref}
+use Rattle.git_msg.specs.Arguments.{alone}
+use Rattle.git_msg.specs.declared.words.Word.TheVariants.{Deepen as deepen, DeepenNot as deepen_not, DeepenSince as deepen_since, Flag as of_flag, Want as want}
+use Rattle.git_msg.specs.declared.words.Word.TheVariants.{WantRef as want_ref}
 use Rattle.git_msg.specs.declared.flags.Flag.{Flag}
 use Rattle.git_rows.proofs.NamesByComputing.{main_is_none}
 use Rattle.git_rows.proofs.lines.arguments_refused.Goals as goal

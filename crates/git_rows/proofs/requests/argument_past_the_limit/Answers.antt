@@ -1,7 +1,8 @@
 use Rattle.std.proofs.Common.{◌≡◌, [], ◌∷◌, codes, refl, arith, inl, inr}
 use Rattle.git_pkt.specs.Packets.{delim}
 use Rattle.git_pkt.specs.declared.fault.Kind.TheVariants.{TooMuchKept}
-use Rattle.git_msg.specs.Arguments.{ReadsAs, alone, of_flag, ref_prefix, with_text}
+use Rattle.git_msg.specs.Arguments.{ReadsAs, alone, with_text}
+use Rattle.git_msg.specs.declared.words.Word.TheVariants.{Flag as of_flag, RefPrefix as ref_prefix}
 use Rattle.git_msg.specs.Lines.{argument, command, delimiter}
 use Rattle.git_msg.specs.Requests.{FirstFault}
 use Rattle.git_msg.specs.WrittenRequest.{text_line}

@@ -1,7 +1,8 @@
 use Rattle.std.proofs.Common.{[], ◌∷◌, codes, refl, arith, inl, inr, true}
 use Rattle.git_pkt.specs.Packets.{delim, flush}
 use Rattle.git_pkt.specs.declared.fault.Kind.TheVariants.{NoWants}
-use Rattle.git_msg.specs.Arguments.{alone, of_flag}
+use Rattle.git_msg.specs.Arguments.{alone}
+use Rattle.git_msg.specs.declared.words.Word.TheVariants.{Flag as of_flag}
 use Rattle.git_msg.specs.Asked.{HasWants}
 use Rattle.git_msg.specs.Lines.{argument, command, delimiter}
 use Rattle.git_msg.specs.WrittenRequest.{text_line}

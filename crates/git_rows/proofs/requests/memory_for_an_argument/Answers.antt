@@ -1,7 +1,8 @@
 use Rattle.std.proofs.Common.{◌≡◌, [], ◌∷◌, ◌++◌, codes, refl, ap, arith, sym, ◌∙◌}
 use Rattle.git_pkt.specs.Packets.{delim, flush}
 use Rattle.git_pkt.specs.Splits.{Given}
-use Rattle.git_msg.specs.Arguments.{want, with_id}
+use Rattle.git_msg.specs.Arguments.{with_id}
+use Rattle.git_msg.specs.declared.words.Word.TheVariants.{Want as want}
 use Rattle.git_msg.specs.WrittenRequest.{text_line}
 use Rattle.git_msg.proofs.WholeRequests.{flush_is_no_line, last_same}
 use Rattle.git_rows.specs.Worked.{all_a, at, name_a, offer_all}

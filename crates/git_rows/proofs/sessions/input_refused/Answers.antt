@@ -6,7 +6,8 @@ use Rattle.git_pkt.specs.Packets.{delim}
 use Rattle.git_pkt.specs.declared.fault.Kind.TheVariants.{BadDigit, Truncated, UnknownCommand}
 use Rattle.git_pkt.proofs.Spelling.{none_begins_nothing, none_begins_short}
 use Rattle.git_msg.specs.Admission.{IsAdmitted}
-use Rattle.git_msg.specs.Arguments.{want, with_id}
+use Rattle.git_msg.specs.Arguments.{with_id}
+use Rattle.git_msg.specs.declared.words.Word.TheVariants.{Want as want}
 use Rattle.git_msg.specs.Lines.{command}
 use Rattle.git_msg.specs.WrittenRequest.{text_line}
 use Rattle.git_msg.specs.declared.arguments.Command.TheVariants.{Fetch, LsRefs}
