@@ -1,256 +1,209 @@
 -- The lists that are stored of a request are its arguments in their order, and looking up in these finds what is stored.
-use Rattle.std.proofs.Common.{◌≡◌, ◌+◌, ◌==◌, ◌||◌, ℕ, Bool, true, false, Option, Some, None, List, [], ◌∷◌, ◌++◌, map, refl, sym}
-use Rattle.std.proofs.Common.{ap, ◌∙◌, get_or, if◌then◌else◌}
-use Rattle.std.specs.Prelude.{All, Vec, IfSome, slice_get}
-use Rattle.std.specs.List.{filter_map, flat_map, cons_option, list_any}
-use Rattle.std.proofs.lemmas.List.{map-append}
-use Rattle.std.proofs.lemmas.List.Elements.{All-nil, All-cons, All-filter, All-map}
-use Rattle.std.proofs.lemmas.Slice.Eq.{bytes_eq-Decides}
+use Rattle.std.proofs.Common.{arith, ◌≡◌, ℕ, ◌+◌, ◌<◌, ◌==◌, ◌||◌, Bool, true, false, Option, Some, None, List, [], ◌∷◌, ◌++◌, map, refl, sym}
+use Rattle.std.proofs.Common.{ap, ◌∙◌, get_or, length, if◌then◌else◌}
+use Rattle.std.specs.Prelude.{All, Vec, set}
+use Rattle.std.specs.List.{filter_map}
+use Rattle.std.proofs.lemmas.Bool.{cases_eq}
+use Rattle.std.proofs.lemmas.Grind.{common_steps, get_or-set_at}
+use Rattle.std.proofs.lemmas.List.{map-append, map-set, length-map, get_or-set_other}
+use Rattle.std.proofs.lemmas.List.Elements.{All-nil, All-cons, All-map}
 use Rattle.git_names.specs.ObjectName.{ObjectName}
 use Rattle.git_msg.specs.declared.flags.Flag.{Flag}
 use Rattle.git_msg.specs.declared.flags.FlagSet.{FlagSet}
 use Rattle.git_msg.specs.declared.lists.ArgumentLists.{ArgumentLists}
 use Rattle.git_msg.specs.declared.parts.Texts.{Texts}
 use Rattle.git_msg.specs.declared.words.Word.{Word}
-use Rattle.git_msg.specs.declared.words.Word.TheVariants.{Flag as of_flag, RefPrefix as ref_prefix, Want as want, Have as have, Filter as filter_spec}
-use Rattle.git_msg.specs.declared.words.Word.TheVariants.{Shallow as shallow, Deepen as deepen, DeepenSince as deepen_since, DeepenNot as deepen_not}
-use Rattle.git_msg.specs.declared.words.Word.TheVariants.{WantRef as want_ref, ObjectId as object_id}
-use Rattle.git_msg.specs.Arguments.{Arg, Value, id_value, number_value, text_value, alone, row, with_id, with_number, with_text, words}
-use Rattle.git_msg.specs.Arguments.{Shape, flag_word, object_name, depth_number, time_number, prefix_text, kept_text, reference_name}
-use Rattle.git_msg.specs.Asked.{is_word, is_of, of_word, last_counts, all_or_last, AreInOrder, flag_among}
+use Rattle.git_msg.specs.declared.words.Word.TheVariants.{Flag as of_flag, Object as of_object, Text as of_text, Number as of_number}
+use Rattle.git_msg.specs.declared.words.ObjectWord.{ObjectWord}
+use Rattle.git_msg.specs.declared.words.TextWord.{TextWord}
+use Rattle.git_msg.specs.declared.words.NumberWord.{NumberWord}
+use Rattle.git_msg.specs.Arguments.{Arg, alone, with_id, with_number, with_text, words}
+use Rattle.git_msg.specs.Asked.{is_word, is_of, of_word, last_counts, all_or_last, AreInOrder, flag_among, values}
 use Rattle.git_msg.specs.Asked.{id_of, ids, number, number_of, text_of, texts, where_asked, where_given, with_one}
-use Rattle.git_msg.specs.Flags.{is_held, place_of}
-use Rattle.git_msg.specs.Machine.ArgumentLists.{held, held_at, ids_at, number_at, texts_at, with_values}
+use Rattle.git_msg.specs.Machine.ArgumentLists.{held, held_at, ids_at, is_held, number_at, number_place, object_place, place_of, text_place, texts_at}
 use Rattle.git_msg.specs.Machine.HeldTexts.{texts_of}
 use Rattle.git_msg.specs.Texts.{last_of}
+use Rattle.git_msg.proofs.HeadWords.{itself, same_word}
 use Rattle.git_msg.proofs.WrittenArguments.{added, any_of, by_value, found, in_order, is_some, with_one_more}
 
-itself : (word : Word) → is_word word word ≡ true
-itself word = (bytes_eq-Decides (row word).keyword (row word).keyword).1 refl
+-- words are the same just where their places are
+flag_place : (a b : Flag) → (place_of a == place_of b) ≡ is_word (of_flag a) (of_flag b)
+flag_place Flag.Size Flag.Size = refl
+flag_place a Flag.Size = refl
+flag_place a b = refl
 
--- the arguments of a word have it, and all of them count
+list_place : (a b : ObjectWord) → (object_place a == object_place b) ≡ is_word (of_object a) (of_object b)
+list_place ObjectWord.Want ObjectWord.Want = refl
+list_place a ObjectWord.Want = refl
+list_place a b = refl
+
+pool_place : (a b : TextWord) → (text_place a == text_place b) ≡ is_word (of_text a) (of_text b)
+pool_place TextWord.Filter TextWord.Filter = refl
+pool_place a TextWord.Filter = refl
+pool_place a b = refl
+
+own_place : (a b : NumberWord) → (number_place a == number_place b) ≡ is_word (of_number a) (of_number b)
+own_place NumberWord.Deepen NumberWord.Deepen = refl
+own_place a NumberWord.Deepen = refl
+own_place a b = refl
+
+same_flag : (a b : Flag) → is_word (of_flag a) (of_flag b) ≡ true → a ≡ b
+same_flag a b h = let same = same_word (of_flag a) (of_flag b) h in cc
+
+same_list : (a b : ObjectWord) → is_word (of_object a) (of_object b) ≡ true → a ≡ b
+same_list a b h = let same = same_word (of_object a) (of_object b) h in cc
+
+same_pool : (a b : TextWord) → is_word (of_text a) (of_text b) ≡ true → a ≡ b
+same_pool a b h = let same = same_word (of_text a) (of_text b) h in cc
+
+same_own : (a b : NumberWord) → is_word (of_number a) (of_number b) ≡ true → a ≡ b
+same_own a b h = let same = same_word (of_number a) (of_number b) h in cc
+
+-- what is made of the values of a word has it
+all_made : {X : Type 0} (word : Word) (make : X → Arg) (xs : List X) → ((x : X) → is_of word (make x) ≡ true)
+    → All (λ arg. is_of word arg ≡ true) (map make xs)
+all_made word make xs own = All-map (λ (arg : Arg). is_of word arg ≡ true) make xs (λ i d within. own (get_or xs i d))
+
 own_flag : (set : Bool) (flag : Flag) → All (λ arg. is_of (of_flag flag) arg ≡ true) (where_asked set flag)
-own_flag true flag = All-cons (λ (arg : Arg). is_of (of_flag flag) arg ≡ true) _ [] (itself (of_flag flag)) (All-nil _)
+own_flag true flag = All-cons (λ (arg : Arg). is_of (of_flag flag) arg ≡ true) (alone flag) [] (itself (of_flag flag)) (All-nil _)
 own_flag false flag = All-nil _
 
-own_number : (word : Word) (number : Option ℕ) → All (λ arg. is_of word arg ≡ true) (where_given word number)
+own_number : (word : NumberWord) (given : Option ℕ) → All (λ arg. is_of (of_number word) arg ≡ true) (where_given word given)
 own_number word None = All-nil _
-own_number word (Some n) = All-cons (λ (arg : Arg). is_of word arg ≡ true) _ [] (itself word) (All-nil _)
-
-own_values : (shape : Shape) (word : Word) (ids : List ObjectName) (texts : List (List ℕ)) (number : Option ℕ)
-    → All (λ arg. is_of word arg ≡ true) (with_values shape word ids texts number)
-own_values flag_word word ids texts number = All-nil _
-own_values object_name word ids texts number = All-map (λ (arg : Arg). is_of word arg ≡ true) (with_id word) ids (λ i d within. itself word)
-own_values depth_number word ids texts number = own_number word number
-own_values time_number word ids texts number = own_number word number
-own_values shape word ids texts number = All-map (λ (arg : Arg). is_of word arg ≡ true) (with_text word) texts (λ i d within. itself word)
+own_number word (Some n) = All-cons (λ (arg : Arg). is_of (of_number word) arg ≡ true) (with_number word n) [] (itself (of_number word)) (All-nil _)
 
 one_flag : (set : Bool) (flag : Flag) → all_or_last true (where_asked set flag) ≡ where_asked set flag
 one_flag true flag = refl
 one_flag false flag = refl
 
-one_number : (word : Word) (number : Option ℕ) → all_or_last true (where_given word number) ≡ where_given word number
+one_number : (word : NumberWord) (given : Option ℕ) → all_or_last true (where_given word given) ≡ where_given word given
 one_number word None = refl
 one_number word (Some n) = refl
-
-values_count : (shape : Shape) (word : Word) (ids : List ObjectName) (texts : List (List ℕ)) (number : Option ℕ)
-    → all_or_last (last_counts shape) (with_values shape word ids texts number) ≡ with_values shape word ids texts number
-values_count depth_number word ids texts number = one_number word number
-values_count time_number word ids texts number = one_number word number
-values_count shape word ids texts number = refl
-
--- which of these values a word of the shape has
-abbrev ids_for : Shape → List ObjectName → List ObjectName
-ids_for object_name ids = ids
-ids_for _ ids = []
-
-abbrev texts_for : Shape → List (List ℕ) → List (List ℕ)
-texts_for flag_word texts = []
-texts_for object_name texts = []
-texts_for depth_number texts = []
-texts_for time_number texts = []
-texts_for _ texts = texts
-
-abbrev number_for : Shape → Option ℕ → Option ℕ
-number_for depth_number number = number
-number_for time_number number = number
-number_for _ number = None
-
--- a flag in a set to which another was added
-abbrev pub IsAdded : Flag → FlagSet → FlagSet → Type 0
-IsAdded flag old new = (place : ℕ) → get_or new.set place false ≡ ((place == place_of flag) || get_or old.set place false)
-
-flag_at : (of flag : Flag) (set : Bool)
-    → where_asked ((place_of of == place_of flag) || set) of ≡ (if is_word (of_flag of) (of_flag flag) then alone (of_flag flag) ∷ [] else where_asked set of)
-flag_at Flag.Size Flag.Size set = refl
-flag_at of Flag.Size set = refl
-flag_at of flag set = refl
-
-abbrev HasValue : Word → Type 0
-HasValue (of_flag flag) = ⊥
-HasValue word = Unit {0}
-
-no_flag : (word : Word) (flag : Flag) → HasValue word → is_word word (of_flag flag) ≡ false
-no_flag (of_flag of) flag h = absurd h
-no_flag ref_prefix Flag.Size h = refl
-no_flag word Flag.Size h = refl
-no_flag word flag h = refl
-
-module _ {X Y : Type 0} (value : Arg → Option Y) (make : X → Arg) where
-  all_there : (item : X → Y) → ((x : X) → value (make x) ≡ Some (item x)) → (xs : List X) → filter_map value (map make xs) ≡ map item xs
-  all_there item is [] = refl
-  all_there item is (x ∷ xs) = rw (is x, all_there item is xs) refl
-
-  none_there : ((x : X) → value (make x) ≡ None) → (xs : List X) → filter_map value (map make xs) ≡ []
-  none_there is [] = refl
-  none_there is (x ∷ xs) = rw (is x, none_there is xs) refl
-
-same_items : {X : Type 0} (xs : List X) → map (λ x. x) xs ≡ xs
-same_items [] = refl
-same_items (x ∷ xs) = ap (λ l. x ∷ l) (same_items xs)
-
-module _ (word : Word) (ids : List ObjectName) (texts : List (List ℕ)) where
-  values_ids : (shape : Shape) (number : Option ℕ) → filter_map (λ arg. id_of arg.value) (with_values shape word ids texts number) ≡ ids_for shape ids
-  values_ids flag_word number = refl
-  values_ids object_name number = all_there (λ (arg : Arg). id_of arg.value) (with_id word) (λ id. id) (λ id. refl) ids ∙ same_items ids
-  values_ids depth_number None = refl
-  values_ids depth_number (Some n) = refl
-  values_ids time_number None = refl
-  values_ids time_number (Some n) = refl
-  values_ids shape number = none_there (λ (arg : Arg). id_of arg.value) (with_text word) (λ text. refl) texts
-
-  values_texts : (shape : Shape) (number : Option ℕ) → filter_map (λ arg. text_of arg.value) (with_values shape word ids texts number) ≡ texts_for shape texts
-  values_texts flag_word number = refl
-  values_texts object_name number = none_there (λ (arg : Arg). text_of arg.value) (with_id word) (λ id. refl) ids
-  values_texts depth_number None = refl
-  values_texts depth_number (Some n) = refl
-  values_texts time_number None = refl
-  values_texts time_number (Some n) = refl
-  values_texts shape number = all_there (λ (arg : Arg). text_of arg.value) (with_text word) (λ text. text) (λ text. refl) texts ∙ same_items texts
-
-  values_number : (shape : Shape) (number : Option ℕ)
-      → last_of (filter_map (λ arg. number_of arg.value) (with_values shape word ids texts number)) ≡ number_for shape number
-  values_number flag_word number = refl
-  values_number object_name number = ap last_of (none_there (λ (arg : Arg). number_of arg.value) (with_id word) (λ id. refl) ids)
-  values_number depth_number None = refl
-  values_number depth_number (Some n) = refl
-  values_number time_number None = refl
-  values_number time_number (Some n) = refl
-  values_number shape number = ap last_of (none_there (λ (arg : Arg). number_of arg.value) (with_text word) (λ text. refl) texts)
-
-flag_has_none : {X : Type 0} (value : Value → Option X) (set : Bool) (flag : Flag) → value (alone (of_flag flag)).value ≡ None
-    → filter_map (λ arg. value arg.value) (where_asked set flag) ≡ []
-flag_has_none value true flag none = rw none refl
-flag_has_none value false flag none = refl
 
 some_flag : (set : Bool) (flag : Flag) → is_some (where_asked set flag) ≡ set
 some_flag true flag = refl
 some_flag false flag = refl
 
--- an argument and others; then the same for the texts, if they have a property
+some_number : (word : NumberWord) (given : Option ℕ) → last_of (filter_map number_of (where_given word given)) ≡ given
+some_number word None = refl
+some_number word (Some n) = refl
+
+all_there : {X : Type 0} (value : Arg → Option X) (make : X → Arg) → ((x : X) → value (make x) ≡ Some x) → (xs : List X)
+    → filter_map value (map make xs) ≡ xs
+all_there value make is [] = refl
+all_there value make is (x ∷ xs) = rw (is x, all_there value make is xs) refl
+
+-- one item of a list is replaced
+replaced : {X : Type 0} (xs : List X) (i j : ℕ) (x d : X) → i < length xs → get_or (set xs i x) j d ≡ (if j == i then x else get_or xs j d)
+replaced xs i j x d within = elim (cases_eq j i) [
+  | inl same ↦ grind (arith, common_steps, same, get_or-set_at xs i j x d same within)
+  | inr other ↦ grind (arith, common_steps, other, get_or-set_other xs i j x d other)
+]
+
+-- so one of several lists of values, each at the place of its word, has one more
+module _ {W L X : Type 0} (items : L → List X) (place : W → ℕ) (is_same : W → W → Bool) (make : W → X → Arg)
+    (place_is : (a b : W) → (place a == place b) ≡ is_same a b) (same : (a b : W) → is_same a b ≡ true → a ≡ b) where
+  longer : (old new : List X) (word of : W) (x : X) (is : Bool) → (is ≡ true → (of ≡ word) × (new ≡ old ++ x ∷ []))
+      → map (make of) (if is then new else old) ≡ (if is then map (make of) old ++ make word x ∷ [] else map (make of) old)
+  longer old new word of x true h = let both = h refl in rw (both.0, both.1) (map-append (make word) old (x ∷ []))
+  longer old new word of x false h = refl
+
+  one_longer : (ls : List L) (new : L) (word of : W) (x : X) → place word < length ls → items new ≡ get_or (map items ls) (place word) [] ++ x ∷ []
+      → map (make of) (get_or (map items (set ls (place word) new)) (place of) [])
+      ≡ (if is_same of word then map (make of) (get_or (map items ls) (place of) []) ++ make word x ∷ [] else map (make of) (get_or (map items ls) (place of) []))
+  one_longer ls new word of x there is =
+      let now : get_or (map items (set ls (place word) new)) (place of) [] ≡ (if is_same of word then items new else get_or (map items ls) (place of) []) =
+      rw (map-set items ls (place word) new, ← place_is of word)
+      (replaced (map items ls) (place word) (place of) (items new) [] (omega (arith, there, length-map ls items))) in
+      ap (map (make of)) now
+      ∙ longer (get_or (map items ls) (place of) []) (items new) word of x (is_same of word)
+      (λ e. (same of word e, rw (same of word e) is))
+
 module _ {A : Type 0} (q : ArgumentLists A) where
   held_own : (word : Word) → All (λ arg. is_of word arg ≡ true) (held_at q word)
   held_own (of_flag flag) = own_flag (is_held q.flags flag) flag
-  held_own word = own_values (row word).shape word (ids_at q word) (texts_at q word) (number_at q word)
+  held_own (of_object word) = all_made (of_object word) (with_id word) (ids_at q word) (λ id. itself (of_object word))
+  held_own (of_text word) = all_made (of_text word) (with_text word) (texts_at q word) (λ text. itself (of_text word))
+  held_own (of_number word) = own_number word (number_at q word)
 
-  held_count : (word : Word) → all_or_last (last_counts (row word).shape) (held_at q word) ≡ held_at q word
+  held_count : (word : Word) → all_or_last (last_counts word) (held_at q word) ≡ held_at q word
   held_count (of_flag flag) = one_flag (is_held q.flags flag) flag
-  held_count word = values_count (row word).shape word (ids_at q word) (texts_at q word) (number_at q word)
+  held_count (of_number word) = one_number word (number_at q word)
+  held_count word = refl
 
   pub held_in_order : AreInOrder (held q)
   held_in_order = in_order (held_at q) held_own held_count
 
   -- looking up
-  found_of : (word : Word) → of_word word (held q) ≡ held_at q word
-  found_of word = found (held_at q) held_own word
+  values_are : {X : Type 0} (value : Arg → Option X) (word : Word) → values value word (held q) ≡ filter_map value (held_at q word)
+  values_are value word = by_value value word (held q) ∙ ap (filter_map value) (found (held_at q) held_own word)
 
-  ids_held : (word : Word) → filter_map (λ arg. id_of arg.value) (held_at q word) ≡ ids_at q word
-  ids_held (of_flag flag) = flag_has_none id_of (is_held q.flags flag) flag refl
-  ids_held word = values_ids word (ids_at q word) (texts_at q word) (row word).shape (number_at q word)
+  pub ids_are : (word : ObjectWord) → ids word (held q) ≡ ids_at q word
+  ids_are word = values_are id_of (of_object word) ∙ all_there id_of (with_id word) (λ id. refl) (ids_at q word)
 
-  texts_held : (word : Word) → filter_map (λ arg. text_of arg.value) (held_at q word) ≡ texts_at q word
-  texts_held (of_flag flag) = flag_has_none text_of (is_held q.flags flag) flag refl
-  texts_held word = values_texts word (ids_at q word) (texts_at q word) (row word).shape (number_at q word)
+  pub texts_are : (word : TextWord) → texts word (held q) ≡ texts_at q word
+  texts_are word = values_are text_of (of_text word) ∙ all_there text_of (with_text word) (λ text. refl) (texts_at q word)
 
-  number_held : (word : Word) → last_of (filter_map (λ arg. number_of arg.value) (held_at q word)) ≡ number_at q word
-  number_held (of_flag flag) = ap last_of (flag_has_none number_of (is_held q.flags flag) flag refl)
-  number_held word = values_number word (ids_at q word) (texts_at q word) (row word).shape (number_at q word)
-
-  pub ids_are : (word : Word) → ids word (held q) ≡ ids_at q word
-  ids_are word = by_value id_of word (held q) ∙ ap (filter_map (λ (arg : Arg). id_of arg.value)) (found_of word) ∙ ids_held word
-
-  pub texts_are : (word : Word) → texts word (held q) ≡ texts_at q word
-  texts_are word = by_value text_of word (held q) ∙ ap (filter_map (λ (arg : Arg). text_of arg.value)) (found_of word) ∙ texts_held word
-
-  pub number_is : (word : Word) → number word (held q) ≡ number_at q word
-  number_is word =
-      ap last_of (by_value number_of word (held q) ∙ ap (filter_map (λ (arg : Arg). number_of arg.value)) (found_of word)) ∙ number_held word
+  pub number_is : (word : NumberWord) → number word (held q) ≡ number_at q word
+  number_is word = ap last_of (values_are number_of (of_number word)) ∙ some_number word (number_at q word)
 
   pub flag_is : (flag : Flag) → flag_among (held q) flag ≡ is_held q.flags flag
-  flag_is flag = any_of (of_flag flag) (held q) ∙ ap is_some (found_of (of_flag flag)) ∙ some_flag (is_held q.flags flag) flag
+  flag_is flag = any_of (of_flag flag) (held q) ∙ ap is_some (found (held_at q) held_own (of_flag flag)) ∙ some_flag (is_held q.flags flag) flag
 
   -- the lists after one more argument
-  abbrev pub Adds : Arg → ArgumentLists A → Type 0
+  abbrev Adds : Arg → ArgumentLists A → Type 0
   Adds arg new = (word : Word) → held_at new word ≡ added word (held_at q word) arg
 
-  pub adds_one : (new : ArgumentLists A) (arg : Arg) → Adds arg new → held new ≡ with_one (held q) arg
+  adds_one : (new : ArgumentLists A) (arg : Arg) → Adds arg new → held new ≡ with_one (held q) arg
   adds_one new arg adds = with_one_more (held_at q) held_own held_count (held_at new) arg adds
 
-  -- a row for each field
-  pub adds_flag : (new : FlagSet) (flag : Flag) → IsAdded flag q.flags new → Adds (alone (of_flag flag)) (record q { flags = new })
-  adds_flag new flag is (of_flag of) = ap (λ (set : Bool). where_asked set of) (is (place_of of)) ∙ flag_at of flag (is_held q.flags of)
-  adds_flag new flag is ref_prefix = rw (no_flag ref_prefix flag tt) refl
-  adds_flag new flag is word = rw (no_flag word flag tt) refl
+  set_flag : (of flag : Flag) (is set : Bool) → (is ≡ true → of ≡ flag)
+      → where_asked (is || set) of ≡ (if is then alone flag ∷ [] else where_asked set of)
+  set_flag of flag true set same = rw (same refl) refl
+  set_flag of flag false set same = refl
 
-  pub adds_prefix : (new : Texts A) (text : List ℕ) → texts_of new ≡ texts_of q.ref_prefixes ++ text ∷ []
-      → Adds (with_text ref_prefix text) (record q { ref_prefixes = new })
-  adds_prefix new text is (of_flag Flag.Size) = refl
-  adds_prefix new text is ref_prefix = rw is (map-append (with_text ref_prefix) (texts_of q.ref_prefixes) (text ∷ []))
-  adds_prefix new text is word = refl
+  pub adds_flag : (new : FlagSet) (flag : Flag)
+      → ((place : ℕ) → get_or new.set place false ≡ ((place == place_of flag) || get_or q.flags.set place false))
+      → held (record q { flags = new }) ≡ with_one (held q) (alone flag)
+  adds_flag new flag is = adds_one (record q { flags = new }) (alone flag) adds
+    where
+      adds : Adds (alone flag) (record q { flags = new })
+      adds (of_flag of) =
+          ap (λ (set : Bool). where_asked set of) (is (place_of of) ∙ ap (λ (b : Bool). b || is_held q.flags of) (flag_place of flag))
+          ∙ set_flag of flag (is_word (of_flag of) (of_flag flag)) (is_held q.flags of) (same_flag of flag)
+      adds word = refl
 
-  pub adds_want : (new : Vec ObjectName A) (id : ObjectName) → new.items ≡ q.wants.items ++ id ∷ [] → Adds (with_id want id) (record q { wants = new })
-  adds_want new id is (of_flag Flag.Size) = refl
-  adds_want new id is want = rw is (map-append (with_id want) q.wants.items (id ∷ []))
-  adds_want new id is word = refl
+  pub adds_id : (new : Vec ObjectName A) (word : ObjectWord) (id : ObjectName) → object_place word < length q.objects
+      → new.items ≡ ids_at q word ++ id ∷ [] → held (record q { objects = set q.objects (object_place word) new }) ≡ with_one (held q) (with_id word id)
+  adds_id new word id there is = adds_one (record q { objects = set q.objects (object_place word) new }) (with_id word id) adds
+    where
+      adds : Adds (with_id word id) (record q { objects = set q.objects (object_place word) new })
+      adds (of_object of) =
+          one_longer (λ (l : Vec ObjectName A). l.items) object_place (λ a b. is_word (of_object a) (of_object b)) with_id list_place same_list
+          q.objects new word of id there is
+      adds other = refl
 
-  pub adds_have : (new : Vec ObjectName A) (id : ObjectName) → new.items ≡ q.haves.items ++ id ∷ [] → Adds (with_id have id) (record q { haves = new })
-  adds_have new id is (of_flag Flag.Size) = refl
-  adds_have new id is have = rw is (map-append (with_id have) q.haves.items (id ∷ []))
-  adds_have new id is word = refl
+  pub adds_text : (new : Texts A) (word : TextWord) (text : List ℕ) → text_place word < length q.texts
+      → texts_of new ≡ texts_at q word ++ text ∷ [] → held (record q { texts = set q.texts (text_place word) new }) ≡ with_one (held q) (with_text word text)
+  adds_text new word text there is = adds_one (record q { texts = set q.texts (text_place word) new }) (with_text word text) adds
+    where
+      adds : Adds (with_text word text) (record q { texts = set q.texts (text_place word) new })
+      adds (of_text of) =
+          one_longer texts_of text_place (λ a b. is_word (of_text a) (of_text b)) with_text pool_place same_pool q.texts new word of text there is
+      adds other = refl
 
-  pub adds_filter : (new : Texts A) (text : List ℕ) → texts_of new ≡ texts_of q.filters ++ text ∷ []
-      → Adds (with_text filter_spec text) (record q { filters = new })
-  adds_filter new text is (of_flag Flag.Size) = refl
-  adds_filter new text is filter_spec = rw is (map-append (with_text filter_spec) (texts_of q.filters) (text ∷ []))
-  adds_filter new text is word = refl
+  given_number : (of word : NumberWord) (is : Bool) (new : ℕ) (old : Option ℕ) → (is ≡ true → of ≡ word)
+      → where_given of (if is then Some new else old) ≡ (if is then with_number word new ∷ [] else where_given of old)
+  given_number of word true new old same = rw (same refl) refl
+  given_number of word false new old same = refl
 
-  pub adds_shallow : (new : Vec ObjectName A) (id : ObjectName) → new.items ≡ q.shallows.items ++ id ∷ []
-      → Adds (with_id shallow id) (record q { shallows = new })
-  adds_shallow new id is (of_flag Flag.Size) = refl
-  adds_shallow new id is shallow = rw is (map-append (with_id shallow) q.shallows.items (id ∷ []))
-  adds_shallow new id is word = refl
-
-  pub adds_depth : (number : ℕ) → Adds (with_number deepen number) (record q { deepen = Some number })
-  adds_depth number (of_flag Flag.Size) = refl
-  adds_depth number word = refl
-
-  pub adds_time : (number : ℕ) → Adds (with_number deepen_since number) (record q { deepen_since = Some number })
-  adds_time number (of_flag Flag.Size) = refl
-  adds_time number word = refl
-
-  pub adds_revision : (new : Texts A) (text : List ℕ) → texts_of new ≡ texts_of q.deepen_nots ++ text ∷ []
-      → Adds (with_text deepen_not text) (record q { deepen_nots = new })
-  adds_revision new text is (of_flag Flag.Size) = refl
-  adds_revision new text is deepen_not = rw is (map-append (with_text deepen_not) (texts_of q.deepen_nots) (text ∷ []))
-  adds_revision new text is word = refl
-
-  pub adds_name : (new : Texts A) (text : List ℕ) → texts_of new ≡ texts_of q.want_refs ++ text ∷ []
-      → Adds (with_text want_ref text) (record q { want_refs = new })
-  adds_name new text is (of_flag Flag.Size) = refl
-  adds_name new text is want_ref = rw is (map-append (with_text want_ref) (texts_of q.want_refs) (text ∷ []))
-  adds_name new text is word = refl
-
-  pub adds_object : (new : Vec ObjectName A) (id : ObjectName) → new.items ≡ q.oids.items ++ id ∷ [] → Adds (with_id object_id id) (record q { oids = new })
-  adds_object new id is (of_flag Flag.Size) = refl
-  adds_object new id is object_id = rw is (map-append (with_id object_id) q.oids.items (id ∷ []))
-  adds_object new id is word = refl
+  pub adds_number : (word : NumberWord) (number : ℕ) → number_place word < length q.numbers
+      → held (record q { numbers = set q.numbers (number_place word) (Some number) }) ≡ with_one (held q) (with_number word number)
+  adds_number word number there = adds_one (record q { numbers = set q.numbers (number_place word) (Some number) }) (with_number word number) adds
+    where
+      adds : Adds (with_number word number) (record q { numbers = set q.numbers (number_place word) (Some number) })
+      adds (of_number of) =
+          ap (where_given of) (replaced q.numbers (number_place word) (number_place of) (Some number) None there
+          ∙ ap (λ (b : Bool). if b then Some number else number_at q of) (own_place of word))
+          ∙ given_number of word (is_word (of_number of) (of_number word)) number (number_at q of) (same_own of word)
+      adds other = refl

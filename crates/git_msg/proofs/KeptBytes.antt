@@ -13,54 +13,69 @@ use Rattle.git_msg.specs.declared.arguments.Argument.{Argument}
 use Rattle.git_msg.specs.declared.arguments.Command.{Command}
 use Rattle.git_msg.specs.declared.flags.Flag.{Flag}
 use Rattle.git_msg.specs.declared.words.Word.{Word}
-use Rattle.git_msg.specs.declared.words.Word.TheVariants.{Flag as of_flag}
-use Rattle.git_msg.specs.Arguments.{Shape, flag_word, object_name, depth_number, time_number, prefix_text, kept_text, reference_name, Row, row, MayFollow}
-use Rattle.git_msg.specs.Arguments.{Arg, Value, no_value, id_value, number_value, text_value, command_with, shown}
-use Rattle.git_msg.specs.Arguments.{IsInRange, IsValue, stored_in, stored_value, written_text, written_value}
+use Rattle.git_msg.specs.declared.words.Word.TheVariants.{Flag as of_flag, Object as of_object, Text as of_text, Number as of_number}
+use Rattle.git_msg.specs.declared.words.ObjectWord.{ObjectWord}
+use Rattle.git_msg.specs.declared.words.TextWord.{TextWord}
+use Rattle.git_msg.specs.declared.words.NumberWord.{NumberWord}
+use Rattle.git_names.specs.ObjectName.{hex_of}
+use Rattle.git_msg.specs.Arguments.{Arg, alone, with_id, with_text, with_number, row, word_of, command_with, shown}
+use Rattle.git_msg.specs.Arguments.{IsInRange, IsNumberOf, IsTextOf, IsValue, stored_in, written_text, written_value}
 use Rattle.git_msg.specs.Asked.{Asked, AreInOrder, HasValues, arguments_in, bytes_of, command_asked, with_one, written}
 use Rattle.git_msg.specs.Kept.{Kept, AreOf, IsSound, KeepsOne}
 use Rattle.git_msg.proofs.WrittenArguments.{all_written, written_again, writes_no_more}
 use Rattle.git_msg.proofs.WrittenNames.{hex_of-at_least, hex_of-at_most}
 
--- the minimum length of a keyword before such a value
-abbrev least_keyword : Shape → ℕ
-least_keyword prefix_text = 6
-least_keyword kept_text = 6
-least_keyword reference_name = 6
-least_keyword _ = 1
+-- a word is short
+record IsKeyword (word : Word) : Type 0 where
+  some_text : 1 ≤ length (row word).keyword
+  short : length (row word).keyword ≤ 15
 
-record IsKeyword (r : Row) : Type 0 where
-  long_enough : least_keyword r.shape ≤ length r.keyword
-  some_text : 1 ≤ length r.keyword
-  short : length r.keyword ≤ 15
+is_keyword : (word : Word) → IsKeyword word
+is_keyword (of_flag Flag.Size) = record { some_text = omega arith; short = omega arith }
+is_keyword (of_object ObjectWord.Want) = record { some_text = omega arith; short = omega arith }
+is_keyword (of_text TextWord.Filter) = record { some_text = omega arith; short = omega arith }
+is_keyword (of_number NumberWord.Deepen) = record { some_text = omega arith; short = omega arith }
+is_keyword word = record { some_text = omega arith; short = omega arith }
 
-is_keyword : (word : Word) → IsKeyword (row word)
-is_keyword (of_flag Flag.Size) = record { long_enough = omega arith; some_text = omega arith; short = omega arith }
-is_keyword word = record { long_enough = omega arith; some_text = omega arith; short = omega arith }
+-- that before a text is no shorter than what is stored beside the text
+before_text : (word : TextWord) → 6 ≤ length (row (of_text word)).keyword
+before_text TextWord.Filter = omega arith
+before_text word = omega arith
 
--- no more bytes are stored of a value than its written form and its keyword have, and it fits into a packet with any keyword
-record IsMeasured (shape : Shape) (value : Value) : Type 0 where
-  stored : stored_value value ≤ least_keyword shape + length (written_value value)
-  short : length (written_value value) + 16 < longest_payload
+text_short : (word : TextWord) (text : List ℕ) → IsTextOf word text → length text + 16 < longest_payload
+text_short TextWord.WantRef text fits = omega (arith, fits.at_most)
+text_short word text fits = omega (arith, fits.1)
 
-measured : (shape : Shape) (format : Format) (value : Value) → MayFollow shape format value → IsMeasured shape value
-measured flag_word format no_value fits = record { stored = omega arith; short = omega arith }
-measured object_name format (id_value id) fits =
-    record { stored = omega (arith, hex_of-at_least format id fits); short = omega (arith, hex_of-at_most format id fits) }
-measured depth_number format (number_value depth) fits = record { stored = omega arith; short = omega (arith, decimal_fits depth (omega (arith, fits.1))) }
-measured time_number format (number_value time) fits = record { stored = omega arith; short = omega (arith, decimal_fits time (omega (arith, fits))) }
-measured prefix_text format (text_value prefix) fits = record { stored = omega arith; short = omega (arith, fits) }
-measured kept_text format (text_value kept) fits = record { stored = omega arith; short = omega (arith, fits.1) }
-measured reference_name format (text_value name) fits = record { stored = omega arith; short = omega (arith, fits.at_most) }
-measured shape format value fits = absurd fits
+pub small_number : (word : NumberWord) (number : ℕ) → IsNumberOf word number → number < 2 ^ 64
+small_number NumberWord.Deepen number fits = omega (arith, fits.1)
+small_number NumberWord.DeepenSince number fits = omega (arith, fits)
+
+-- few bytes are stored of a value, no more than its line has, and it fits into a packet with any word
+record IsMeasured (arg : Arg) : Type 0 where
+  stored : stored_in arg ≤ length (written_text arg)
+  few : stored_in arg ≤ 65535
+  short : length (written_value arg) + 16 < longest_payload
+
+measured : (format : Format) (arg : Arg) → IsInRange format arg → IsMeasured arg
+measured format (alone flag) fits = record { stored = omega arith; few = omega arith; short = omega arith }
+measured format (with_id word id) fits = record {
+  stored = omega (arith, hex_of-at_least format id fits, length-append (row (of_object word)).keyword (hex_of id));
+  few = omega arith;
+  short = omega (arith, hex_of-at_most format id fits);
+}
+measured format (with_text word text) fits =
+    let short = text_short word text fits in
+    record { stored = omega (arith, before_text word, length-append (row (of_text word)).keyword text); few = omega arith; short = short }
+measured format (with_number word number) fits =
+    record { stored = omega arith; few = omega arith; short = omega (arith, decimal_fits number (small_number word number fits)) }
 
 -- no more bytes are stored of an argument than its text has
 pub stored_fits : (format : Format) (arg : Arg) → IsInRange format arg → stored_in arg ≤ length (written_text arg)
-stored_fits format arg value = search (rules, measured, is_keyword, length-append)
+stored_fits format arg value = (measured format arg value).stored
 
 -- there are no more arguments than bytes, since each has a text
 has_text : (arg : Arg) → 1 ≤ length (written_text arg)
-has_text arg = let k = is_keyword arg.word in omega (arith, k.some_text, length-append (row arg.word).keyword (written_value arg.value))
+has_text arg = let k = is_keyword (word_of arg) in omega (arith, k.some_text, length-append (row (word_of arg)).keyword (written_value arg))
 
 count_at_most : (args : List Arg) → length args ≤ bytes_of args
 count_at_most [] = omega arith
@@ -95,22 +110,15 @@ has_values format asked args are of ranges in_order = record {
 }
 
 -- few bytes are stored of an argument
-stored_few : (shape : Shape) (format : Format) (value : Value) → MayFollow shape format value → stored_value value ≤ 65535
-stored_few flag_word format no_value fits = omega arith
-stored_few object_name format (id_value id) fits = omega arith
-stored_few depth_number format (number_value depth) fits = omega arith
-stored_few time_number format (number_value time) fits = omega arith
-stored_few prefix_text format (text_value prefix) fits = omega (arith, fits)
-stored_few kept_text format (text_value kept) fits = omega (arith, fits.1)
-stored_few reference_name format (text_value name) fits = omega (arith, fits.at_most)
-stored_few shape format value fits = absurd fits
-
 pub stored_short : (format : Format) (arg : Arg) → IsInRange format arg → stored_in arg ≤ 65535
-stored_short format arg range = stored_few (row arg.word).shape format arg.value range
+stored_short format arg range = (measured format arg range).few
 
 -- an argument that is allowed in a request fits into a packet
 pub value_fits : (format : Format) (arg : Arg) → IsInRange format arg → length (written_text arg) < longest_payload
-value_fits format arg value = search (rules, measured, is_keyword, length-append)
+value_fits format arg value =
+    let m = measured format arg value in
+    let k = is_keyword (word_of arg) in
+    omega (arith, m.short, k.short, length-append (row (word_of arg)).keyword (written_value arg))
 
 -- so a request has few arguments, and each of them fits
 pub place_bound : (q : Kept (List Arg)) (i : ℕ) (result : Option Argument) → IsSound q → option_map shown result ≡ slice_get q.asked i

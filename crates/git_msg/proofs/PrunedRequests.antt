@@ -11,13 +11,15 @@ use Rattle.std.proofs.lemmas.List.Filters.{All-dedup}
 use Rattle.std.proofs.lemmas.List.Sorted.{All-permutation, IsPermutation-map, sum_by-IsPermutation}
 use Rattle.git_names.specs.declared.object_format.Format.{Format}
 use Rattle.git_msg.specs.Arguments.{Arg, IsInRange, with_text, words, written_text}
-use Rattle.git_msg.specs.declared.words.Word.TheVariants.{RefPrefix as ref_prefix}
-use Rattle.git_msg.specs.Asked.{bytes_of}
+use Rattle.git_msg.specs.declared.words.Word.{Word}
+use Rattle.git_msg.specs.declared.words.Word.TheVariants.{Text as of_text}
+use Rattle.git_msg.specs.declared.words.TextWord.{TextWord}
+use Rattle.git_msg.specs.Asked.{bytes_of, is_word}
 use Rattle.git_msg.specs.Kept.{IsSound}
-use Rattle.git_msg.specs.Machine.ArgumentLists.{held, held_at, stored}
-use Rattle.git_msg.specs.Machine.HeldTexts.{texts_of}
+use Rattle.git_msg.specs.Machine.ArgumentLists.{held, held_at, stored, texts_at}
 use Rattle.git_msg.specs.declared.lists.ArgumentLists.{ArgumentLists}
 use Rattle.git_msg.proofs.HeldArguments.{held_in_order}
+use Rattle.git_msg.proofs.WrittenArguments.{unchanged}
 use Rattle.git_msg.specs.Prefixes.{Prunes, begins}
 use Rattle.git_msg.proofs.KeptBytes.{all_front, all_back}
 use Rattle.std.proofs.Common.{[], rules}
@@ -95,30 +97,36 @@ module _ {A : Type 0} where
   abbrev back_of : ArgumentLists A → List Arg
   back_of q = flat_map (held_at q) (drop 4 words)
 
-  parted : (q : ArgumentLists A) → held q ≡ front_of q ++ (map (with_text ref_prefix) (texts_of q.ref_prefixes) ++ back_of q)
+  parted : (q : ArgumentLists A) → held q ≡ front_of q ++ (map (with_text TextWord.RefPrefix) (texts_at q TextWord.RefPrefix) ++ back_of q)
   parted q = flat_map-append (held_at q) (take 3 words) (drop 3 words)
 
   -- the lists with other prefixes
-  module _ (q new : ArgumentLists A) (others : new ≡ record q { ref_prefixes = new.ref_prefixes })
-      (prunes : Prunes (texts_of q.ref_prefixes) (texts_of new.ref_prefixes)) where
+  module _ (q new : ArgumentLists A) (others : (word : Word) → is_word word (of_text TextWord.RefPrefix) ≡ false → held_at new word ≡ held_at q word)
+      (prunes : Prunes (texts_at q TextWord.RefPrefix) (texts_at new TextWord.RefPrefix)) where
     abbrev pruned : List (List ℕ)
     pruned = dedup begins prunes.moved
 
-    now : held new ≡ front_of q ++ (map (with_text ref_prefix) pruned ++ back_of q)
-    now = ap held others ∙ parted (record q { ref_prefixes = new.ref_prefixes })
-        ∙ ap (λ (ps : List (List ℕ)). front_of q ++ (map (with_text ref_prefix) ps ++ back_of q)) prunes.kept
+    now : held new ≡ front_of q ++ (map (with_text TextWord.RefPrefix) pruned ++ back_of q)
+    now =
+        rw (
+          parted new,
+          unchanged (held_at new) (held_at q) (of_text TextWord.RefPrefix) others (take 3 words) refl,
+          unchanged (held_at new) (held_at q) (of_text TextWord.RefPrefix) others (drop 4 words) refl,
+          prunes.kept,
+        )
+        refl
 
     pub sound_pruned : (format : Format) (kept limit : ℕ) → stored new ≤ stored q
         → IsSound (record { format = format; asked = held q; kept = kept; limit = limit; stored = stored q })
         → IsSound (record { format = format; asked = held new; kept = kept; limit = limit; stored = stored new })
     sound_pruned format kept limit less h = record {
       ranges = subst (All (IsInRange format)) (sym now)
-          (values_pruned (IsInRange format) (with_text ref_prefix) (front_of q) (back_of q) (texts_of q.ref_prefixes) prunes.moved prunes.same
+          (values_pruned (IsInRange format) (with_text TextWord.RefPrefix) (front_of q) (back_of q) (texts_at q TextWord.RefPrefix) prunes.moved prunes.same
           (subst (All (IsInRange format)) (parted q) h.ranges));
       in_order = held_in_order new;
       written =
           let fewer =
-          bytes_pruned (IsInRange format) (with_text ref_prefix) (front_of q) (back_of q) (texts_of q.ref_prefixes) prunes.moved prunes.same in
+          bytes_pruned (IsInRange format) (with_text TextWord.RefPrefix) (front_of q) (back_of q) (texts_at q TextWord.RefPrefix) prunes.moved prunes.same in
           omega (arith, fewer, h.written, ap bytes_of (parted q), ap bytes_of now);
       covered = omega (arith, less, h.covered);
       space = h.space;

@@ -3,16 +3,19 @@ use Rattle.std.proofs.Common.{arith, ◌≡◌, ℕ, ◌+◌, ◌≤◌, Bool, t
 use Rattle.std.proofs.Common.{if◌then◌else◌, Option, Some, None}
 use Rattle.std.specs.Prelude.{All, sum_by, filter}
 use Rattle.std.specs.List.{filter_map, flat_map, list_any, cons_option}
-use Rattle.std.specs.Str.{bytes_eq}
 use Rattle.std.proofs.lemmas.Grind.{common_steps}
-use Rattle.std.proofs.lemmas.Slice.Eq.{bytes_eq-Decides}
 use Rattle.std.proofs.lemmas.List.Elements.{filter-append, filter_passes, All-filter, All-append, All-nil, All-head, All-tail}
 use Rattle.std.proofs.lemmas.List.Sums.{sum_by-append, sum_by-cons}
 use Rattle.git_msg.specs.declared.flags.Flag.{Flag}
 use Rattle.git_msg.specs.declared.words.Word.{Word}
-use Rattle.git_msg.specs.declared.words.Word.TheVariants.{Flag as of_flag}
-use Rattle.git_msg.specs.Arguments.{Arg, Value, row, words}
+use Rattle.git_msg.specs.declared.words.Word.TheVariants.{Flag as of_flag, Object as of_object, Text as of_text, Number as of_number}
+use Rattle.git_msg.specs.declared.words.ObjectWord.{ObjectWord}
+use Rattle.git_msg.specs.declared.words.TextWord.{TextWord}
+use Rattle.git_msg.specs.declared.words.NumberWord.{NumberWord}
+use Rattle.git_msg.specs.Arguments.{Arg, word_of, words}
 use Rattle.git_msg.specs.Asked.{is_word, is_of, of_word, last_counts, last_alone, all_or_last, counting, written, with_one, AreInOrder}
+use Rattle.git_msg.specs.Asked.{values}
+use Rattle.git_msg.proofs.HeadWords.{apart}
 
 -- what counts of a word's arguments with one more after them
 abbrev pub added_as : Bool → List Arg → Arg → List Arg
@@ -20,7 +23,7 @@ added_as true args arg = arg ∷ []
 added_as false args arg = args ++ arg ∷ []
 
 abbrev pub added : Word → List Arg → Arg → List Arg
-added word args arg = if is_of word arg then added_as (last_counts (row word).shape) args arg else args
+added word args arg = if is_of word arg then added_as (last_counts word) args arg else args
 
 last_behind : (args : List Arg) (arg : Arg) → last_alone (args ++ arg ∷ []) ≡ arg ∷ []
 last_behind [] arg = refl
@@ -39,12 +42,12 @@ one_alone word arg false is = grind (arith, common_steps, is)
 
 pub one_more : (word : Word) (args : List Arg) (arg : Arg) → counting word (args ++ arg ∷ []) ≡ added word (counting word args) arg
 one_more word args arg =
-    ap (all_or_last (last_counts (row word).shape))
+    ap (all_or_last (last_counts word))
     (filter-append (is_of word) args (arg ∷ []) ∙ ap (λ (l : List Arg). of_word word args ++ l) (one_alone word arg (is_of word arg) refl))
-    ∙ added_by (is_of word arg) (last_counts (row word).shape) (of_word word args) arg
+    ∙ added_by (is_of word arg) (last_counts word) (of_word word args) arg
 
 -- the word is none of these
-abbrev never : Word → List Word → Bool
+abbrev pub never : Word → List Word → Bool
 never word [] = true
 never word (first ∷ order) = not (is_word first word) && never word order
 
@@ -60,10 +63,10 @@ IsIn word (first ∷ order) = IsInAs (is_word first word) ((first ≡ word) × (
 -- each word is in the written order once
 in_words : (word : Word) → IsIn word words
 in_words (of_flag Flag.Size) = (refl, refl)
+in_words (of_object ObjectWord.Want) = (refl, refl)
+in_words (of_text TextWord.Filter) = (refl, refl)
+in_words (of_number NumberWord.Deepen) = (refl, refl)
 in_words word = (refl, refl)
-
-apart : (a b c : List ℕ) → bytes_eq a c ≡ true → bytes_eq a b ≡ false → bytes_eq b c ≡ false
-apart a b c same not = grind (arith, common_steps, bytes_eq-Decides)
 
 -- lists of arguments by their words, one after the other
 module _ (held : Word → List Arg) (own : (word : Word) → All (λ arg. is_of word arg ≡ true) (held word)) where
@@ -80,7 +83,7 @@ module _ (held : Word → List Arg) (own : (word : Word) → All (λ arg. is_of 
   finds_none word other [] not h = refl
   finds_none word other (a ∷ l) not h =
       let one = All-head (λ (arg : Arg). is_of other arg ≡ true) a l h in
-      let differs : is_of word a ≡ false = apart (row other).keyword (row word).keyword (row a.word).keyword one not in
+      let differs : is_of word a ≡ false = apart word other (word_of a) one not in
       let others = finds_none word other l not (All-tail (λ (arg : Arg). is_of other arg ≡ true) a l h) in
       grind (arith, common_steps, differs, others)
 
@@ -114,11 +117,23 @@ pub same_lists : (f g : Word → List Arg) → ((word : Word) → f word ≡ g w
 same_lists f g same [] = refl
 same_lists f g same (word ∷ order) = rw (same word, same_lists f g same order) refl
 
+-- lists that differ for one word alone
+unchanged_at : (f g : Word → List Arg) (word first : Word) (order : List Word) (is : Bool) → is_word first word ≡ is → (is ≡ false → f first ≡ g first)
+    → (not is && never word order) ≡ true → (never word order ≡ true → flat_map f order ≡ flat_map g order) → flat_map f (first ∷ order) ≡ flat_map g (first ∷ order)
+unchanged_at f g word first order true is same h later = absurd (cc)
+unchanged_at f g word first order false is same h later = rw (same refl, later h) refl
+
+pub unchanged : (f g : Word → List Arg) (word : Word) → ((other : Word) → is_word other word ≡ false → f other ≡ g other)
+    → (order : List Word) → never word order ≡ true → flat_map f order ≡ flat_map g order
+unchanged f g word same [] h = refl
+unchanged f g word same (first ∷ order) h =
+    unchanged_at f g word first order (is_word first word) refl (same first) h (unchanged f g word same order)
+
 -- lists of arguments that all count
 module _ (held : Word → List Arg) (own : (word : Word) → All (λ arg. is_of word arg ≡ true) (held word))
-    (count : (word : Word) → all_or_last (last_counts (row word).shape) (held word) ≡ held word) where
+    (count : (word : Word) → all_or_last (last_counts word) (held word) ≡ held word) where
   pub counts : (word : Word) → counting word (flat_map held words) ≡ held word
-  counts word = ap (all_or_last (last_counts (row word).shape)) (found held own word) ∙ count word
+  counts word = ap (all_or_last (last_counts word)) (found held own word) ∙ count word
 
   pub in_order : AreInOrder (flat_map held words)
   in_order = same_lists held (λ word. counting word (flat_map held words)) (λ word. sym (counts word)) words
@@ -152,10 +167,10 @@ twice false args = refl
 
 module _ (args : List Arg) where
   counted_own : (word : Word) → All (λ arg. is_of word arg ≡ true) (counting word args)
-  counted_own word = all_kept (λ arg. is_of word arg ≡ true) (last_counts (row word).shape) (of_word word args) (filter_passes (is_of word) args)
+  counted_own word = all_kept (λ arg. is_of word arg ≡ true) (last_counts word) (of_word word args) (filter_passes (is_of word) args)
 
-  counted_twice : (word : Word) → all_or_last (last_counts (row word).shape) (counting word args) ≡ counting word args
-  counted_twice word = twice (last_counts (row word).shape) (of_word word args)
+  counted_twice : (word : Word) → all_or_last (last_counts word) (counting word args) ≡ counting word args
+  counted_twice word = twice (last_counts word) (of_word word args)
 
   -- what is written asks for the same
   pub written_again : AreInOrder (written args)
@@ -174,7 +189,7 @@ all_written P args h = in_all words
     in_all [] = All-nil P
     in_all (word ∷ order) =
         All-append P (counting word args) (flat_map (λ w. counting w args) order)
-        (all_kept P (last_counts (row word).shape) (of_word word args) (All-filter (is_of word) P args h)) (in_all order)
+        (all_kept P (last_counts word) (of_word word args) (All-filter (is_of word) P args h)) (in_all order)
 
 -- ---- what one argument more writes
 
@@ -186,7 +201,7 @@ module _ (bytes : Arg → ℕ) (args : List Arg) (arg : Arg) where
   old_of word = counting word args
 
   same_of : (word : Word) → is_of word arg ≡ false → new_of word ≡ old_of word
-  same_of word not = one_more word args arg ∙ ap (λ (b : Bool). if b then added_as (last_counts (row word).shape) (old_of word) arg else old_of word) not
+  same_of word not = one_more word args arg ∙ ap (λ (b : Bool). if b then added_as (last_counts word) (old_of word) arg else old_of word) not
 
   no_more_as : (last : Bool) (old : List Arg) → sum_by bytes (added_as last old arg) ≤ sum_by bytes old + bytes arg
   no_more_as true old = omega (arith, sum_by-cons bytes arg [])
@@ -194,25 +209,16 @@ module _ (bytes : Arg → ℕ) (args : List Arg) (arg : Arg) where
 
   no_more_of : (word : Word) → is_of word arg ≡ true → sum_by bytes (new_of word) ≤ sum_by bytes (old_of word) + bytes arg
   no_more_of word is =
-      let new = one_more word args arg ∙ ap (λ (b : Bool). if b then added_as (last_counts (row word).shape) (old_of word) arg else old_of word) is in
-      rw new (no_more_as (last_counts (row word).shape) (old_of word))
-
-  unchanged_at : (first : Word) (order : List Word) (is : Bool) → is_of first arg ≡ is → (not is && never arg.word order) ≡ true
-      → (never arg.word order ≡ true → flat_map new_of order ≡ flat_map old_of order) → flat_map new_of (first ∷ order) ≡ flat_map old_of (first ∷ order)
-  unchanged_at first order true is h later = absurd (cc)
-  unchanged_at first order false is h later = rw (same_of first is, later h) refl
-
-  unchanged : (order : List Word) → never arg.word order ≡ true → flat_map new_of order ≡ flat_map old_of order
-  unchanged [] h = refl
-  unchanged (first ∷ order) h = unchanged_at first order (is_of first arg) refl h (unchanged order)
+      let new = one_more word args arg ∙ ap (λ (b : Bool). if b then added_as (last_counts word) (old_of word) arg else old_of word) is in
+      rw new (no_more_as (last_counts word) (old_of word))
 
   no_more_at : (first : Word) (order : List Word) (is : Bool) → is_of first arg ≡ is
-      → IsInAs is ((first ≡ arg.word) × (never arg.word order ≡ true)) (IsIn arg.word order)
-      → (IsIn arg.word order → sum_by bytes (flat_map new_of order) ≤ sum_by bytes (flat_map old_of order) + bytes arg)
+      → IsInAs is ((first ≡ (word_of arg)) × (never (word_of arg) order ≡ true)) (IsIn (word_of arg) order)
+      → (IsIn (word_of arg) order → sum_by bytes (flat_map new_of order) ≤ sum_by bytes (flat_map old_of order) + bytes arg)
       → sum_by bytes (flat_map new_of (first ∷ order)) ≤ sum_by bytes (flat_map old_of (first ∷ order)) + bytes arg
   no_more_at first order true is once more =
       let head = no_more_of first is in
-      let tail = ap (sum_by bytes) (unchanged order once.1) in
+      let tail = ap (sum_by bytes) (unchanged new_of old_of (word_of arg) same_of order once.1) in
       omega (
         arith,
         head,
@@ -230,26 +236,25 @@ module _ (bytes : Arg → ℕ) (args : List Arg) (arg : Arg) where
         sum_by-append bytes (old_of first) (flat_map old_of order),
       )
 
-  no_more_in : (order : List Word) → IsIn arg.word order → sum_by bytes (flat_map new_of order) ≤ sum_by bytes (flat_map old_of order) + bytes arg
+  no_more_in : (order : List Word) → IsIn (word_of arg) order → sum_by bytes (flat_map new_of order) ≤ sum_by bytes (flat_map old_of order) + bytes arg
   no_more_in [] once = absurd once
   no_more_in (first ∷ order) once = no_more_at first order (is_of first arg) refl once (no_more_in order)
 
   pub writes_no_more : sum_by bytes (with_one args arg) ≤ sum_by bytes (written args) + bytes arg
-  writes_no_more = no_more_in words (in_words arg.word)
+  writes_no_more = no_more_in words (in_words (word_of arg))
 
 -- ---- looking up
 
-at_value : {X : Type 0} (value : Value → Option X) (word : Word) (arg : Arg) (args : List Arg) (is : Bool) → is_of word arg ≡ is
-    → cons_option (if is then value arg.value else None) (filter_map (λ a. value a.value) (of_word word args))
-    ≡ filter_map (λ a. value a.value) (if is then arg ∷ of_word word args else of_word word args)
+at_value : {X : Type 0} (value : Arg → Option X) (word : Word) (arg : Arg) (args : List Arg) (is : Bool) → is_of word arg ≡ is
+    → cons_option (if is then value arg else None) (filter_map value (of_word word args))
+    ≡ filter_map value (if is then arg ∷ of_word word args else of_word word args)
 at_value value word arg args true is = refl
 at_value value word arg args false is = refl
 
-pub by_value : {X : Type 0} (value : Value → Option X) (word : Word) (args : List Arg)
-    → filter_map (λ arg. if is_of word arg then value arg.value else None) args ≡ filter_map (λ arg. value arg.value) (of_word word args)
+pub by_value : {X : Type 0} (value : Arg → Option X) (word : Word) (args : List Arg) → values value word args ≡ filter_map value (of_word word args)
 by_value value word [] = refl
 by_value value word (arg ∷ args) =
-    ap (cons_option (if is_of word arg then value arg.value else None)) (by_value value word args) ∙ at_value value word arg args (is_of word arg) refl
+    ap (cons_option (if is_of word arg then value arg else None)) (by_value value word args) ∙ at_value value word arg args (is_of word arg) refl
 
 abbrev pub is_some : List Arg → Bool
 is_some [] = false

@@ -10,30 +10,36 @@ use Rattle.git_msg.specs.declared.arguments.Command.{Command}
 use Rattle.git_msg.specs.declared.arguments.Command.TheVariants.{LsRefs, Fetch, ObjectInfo}
 use Rattle.git_msg.specs.declared.flags.Flag.{Flag}
 use Rattle.git_msg.specs.declared.words.Word.{Word}
-use Rattle.git_msg.specs.declared.words.Word.TheVariants.{Flag as of_flag, RefPrefix as ref_prefix, Want as want, Have as have, Filter as filter_spec}
-use Rattle.git_msg.specs.declared.words.Word.TheVariants.{Shallow as shallow, Deepen as deepen, DeepenSince as deepen_since, DeepenNot as deepen_not}
-use Rattle.git_msg.specs.declared.words.Word.TheVariants.{WantRef as want_ref, ObjectId as object_id}
-use Rattle.git_msg.specs.Arguments.{Arg, Value, id_value, number_value, text_value, alone, row, with_number, words}
-use Rattle.git_msg.specs.Arguments.{Shape, flag_word, depth_number, time_number, IsValue, is_offered, written_text}
+use Rattle.git_msg.specs.declared.words.Word.TheVariants.{Flag as of_flag, Object as of_object, Text as of_text, Number as of_number}
+use Rattle.git_msg.specs.declared.words.ObjectWord.{ObjectWord}
+use Rattle.git_msg.specs.declared.words.TextWord.{TextWord}
+use Rattle.git_msg.specs.declared.words.NumberWord.{NumberWord}
+use Rattle.git_msg.specs.Arguments.{Arg, alone, with_id, with_text, with_number, row, word_of, words, IsValue, is_offered, written_text}
 use Rattle.git_msg.specs.Texts.{last_of}
+
+abbrev pub same_keyword : Word → Word → Bool
+same_keyword word other = bytes_eq (row word).keyword (row other).keyword
 
 -- whether two words are the same
 abbrev pub is_word : Word → Word → Bool
-is_word word other = bytes_eq (row word).keyword (row other).keyword
+is_word (of_flag word) (of_flag other) = same_keyword (of_flag word) (of_flag other)
+is_word (of_object word) (of_object other) = same_keyword (of_object word) (of_object other)
+is_word (of_text word) (of_text other) = same_keyword (of_text word) (of_text other)
+is_word (of_number word) (of_number other) = same_keyword (of_number word) (of_number other)
+is_word word other = false
 
 -- whether the argument has the word
 abbrev pub is_of : Word → Arg → Bool
-is_of word arg = is_word word arg.word
+is_of word arg = is_word word (word_of arg)
 
 -- the arguments that have it
 abbrev pub of_word : Word → List Arg → List Arg
 of_word word args = filter (is_of word) args
 
--- whether of several arguments with such a value the last alone counts
-abbrev pub last_counts : Shape → Bool
-last_counts flag_word = true
-last_counts depth_number = true
-last_counts time_number = true
+-- whether of several arguments with the word the last alone counts
+abbrev pub last_counts : Word → Bool
+last_counts (of_flag flag) = true
+last_counts (of_number word) = true
 last_counts _ = false
 
 -- the last argument alone
@@ -48,7 +54,7 @@ all_or_last false args = args
 
 -- the arguments of a word that count
 abbrev pub counting : Word → List Arg → List Arg
-counting word args = all_or_last (last_counts (row word).shape) (of_word word args)
+counting word args = all_or_last (last_counts word) (of_word word args)
 
 -- the arguments that count, as they are written: word after word
 abbrev pub written : List Arg → List Arg
@@ -93,86 +99,76 @@ with_one args arg = written (args ++ arg ∷ [])
 abbrev pub with_argument : Asked → Arg → Asked
 with_argument asked arg = asked_for (command_asked asked) (with_one (arguments_in asked) arg)
 
-abbrev pub id_of : Value → Option ObjectName
-id_of (id_value id) = Some id
+-- the argument's value, if it has one of that shape
+abbrev pub id_of : Arg → Option ObjectName
+id_of (with_id word id) = Some id
 id_of _ = None
 
-abbrev pub number_of : Value → Option ℕ
-number_of (number_value number) = Some number
-number_of _ = None
-
-abbrev pub text_of : Value → Option (List ℕ)
-text_of (text_value text) = Some text
+abbrev pub text_of : Arg → Option (List ℕ)
+text_of (with_text word text) = Some text
 text_of _ = None
 
--- the argument's value, if it is of the word
-abbrev pub id_in : Word → Arg → Option ObjectName
-id_in word arg = if is_of word arg then id_of arg.value else None
+abbrev pub number_of : Arg → Option ℕ
+number_of (with_number word number) = Some number
+number_of _ = None
 
-abbrev pub number_in : Word → Arg → Option ℕ
-number_in word arg = if is_of word arg then number_of arg.value else None
+-- the values after a word, in the order of their lines
+abbrev pub values : {X : Type 0} → (Arg → Option X) → Word → List Arg → List X
+values value word args = filter_map (λ arg. if is_of word arg then value arg else None) args
 
-abbrev pub text_in : Word → Arg → Option (List ℕ)
-text_in word arg = if is_of word arg then text_of arg.value else None
+abbrev pub ids : ObjectWord → List Arg → List ObjectName
+ids word = values id_of (of_object word)
 
--- whether the argument is the flag
-abbrev pub is_flag_of : Flag → Arg → Bool
-is_flag_of flag arg = is_of (of_flag flag) arg
+abbrev pub texts : TextWord → List Arg → List (List ℕ)
+texts word = values text_of (of_text word)
+
+-- the number after a word; of several, the last
+abbrev pub number : NumberWord → List Arg → Option ℕ
+number word args = last_of (values number_of (of_number word) args)
 
 -- whether the flag is among the arguments
 abbrev pub flag_among : List Arg → Flag → Bool
-flag_among args flag = list_any (is_flag_of flag) args
-
--- the values after a word, in the order of their lines
-abbrev pub ids : Word → List Arg → List ObjectName
-ids word args = filter_map (id_in word) args
-
-abbrev pub texts : Word → List Arg → List (List ℕ)
-texts word args = filter_map (text_in word) args
-
--- the number after a word; of several, the last
-abbrev pub number : Word → List Arg → Option ℕ
-number word args = last_of (filter_map (number_in word) args)
+flag_among args flag = list_any (is_of (of_flag flag)) args
 
 -- the objects that a fetch wants
 abbrev pub wants_in : List Arg → List ObjectName
-wants_in = ids want
+wants_in = ids ObjectWord.Want
 
 -- the objects that a client has
 abbrev pub haves_in : List Arg → List ObjectName
-haves_in = ids have
+haves_in = ids ObjectWord.Have
 
 -- the commits that are shallow at the client
 abbrev pub shallows_in : List Arg → List ObjectName
-shallows_in = ids shallow
+shallows_in = ids ObjectWord.Shallow
 
 -- the objects that an object-info asks about
 abbrev pub oids_in : List Arg → List ObjectName
-oids_in = ids object_id
+oids_in = ids ObjectWord.ObjectId
 
 -- the prefixes of an ls-refs
 abbrev pub ref_prefixes_in : List Arg → List (List ℕ)
-ref_prefixes_in = texts ref_prefix
+ref_prefixes_in = texts TextWord.RefPrefix
 
 -- which objects a fetch leaves out, each as a filter-spec
 abbrev pub filters_in : List Arg → List (List ℕ)
-filters_in = texts filter_spec
+filters_in = texts TextWord.Filter
 
 -- the revisions whose history a fetch does not want
 abbrev pub deepen_nots_in : List Arg → List (List ℕ)
-deepen_nots_in = texts deepen_not
+deepen_nots_in = texts TextWord.DeepenNot
 
 -- the references whose objects a fetch wants
 abbrev pub want_refs_in : List Arg → List (List ℕ)
-want_refs_in = texts want_ref
+want_refs_in = texts TextWord.WantRef
 
 -- the depth of a fetch
 abbrev pub deepen_in : List Arg → Option ℕ
-deepen_in = number deepen
+deepen_in = number NumberWord.Deepen
 
 -- the time from which on a fetch wants the history
 abbrev pub deepen_since_in : List Arg → Option ℕ
-deepen_since_in = number deepen_since
+deepen_since_in = number NumberWord.DeepenSince
 
 -- whether a fetch is done with negotiation
 abbrev pub done_in : List Arg → Bool
@@ -192,44 +188,13 @@ unborn_in args = flag_among args Flag.Unborn
 abbrev pub has_flag : Flag → Asked → Bool
 has_flag flag asked = flag_among (arguments_in asked) flag
 
--- the values of a request by their names
-abbrev pub ref_prefixes_of : Asked → List (List ℕ)
-ref_prefixes_of asked = ref_prefixes_in (arguments_in asked)
-
-abbrev pub wants_of : Asked → List ObjectName
-wants_of asked = wants_in (arguments_in asked)
-
-abbrev pub haves_of : Asked → List ObjectName
-haves_of asked = haves_in (arguments_in asked)
-
-abbrev pub filters_of : Asked → List (List ℕ)
-filters_of asked = filters_in (arguments_in asked)
-
-abbrev pub shallows_of : Asked → List ObjectName
-shallows_of asked = shallows_in (arguments_in asked)
-
-abbrev pub deepen_of : Asked → Option ℕ
-deepen_of asked = deepen_in (arguments_in asked)
-
-abbrev pub deepen_since_of : Asked → Option ℕ
-deepen_since_of asked = deepen_since_in (arguments_in asked)
-
-abbrev pub deepen_nots_of : Asked → List (List ℕ)
-deepen_nots_of asked = deepen_nots_in (arguments_in asked)
-
-abbrev pub want_refs_of : Asked → List (List ℕ)
-want_refs_of asked = want_refs_in (arguments_in asked)
-
-abbrev pub oids_of : Asked → List ObjectName
-oids_of asked = oids_in (arguments_in asked)
-
 -- the argument of a flag, if it is set
 abbrev pub where_asked : Bool → Flag → List Arg
-where_asked true flag = alone (of_flag flag) ∷ []
+where_asked true flag = alone flag ∷ []
 where_asked false flag = []
 
 -- the argument of a number, if there is one
-abbrev pub where_given : Word → Option ℕ → List Arg
+abbrev pub where_given : NumberWord → Option ℕ → List Arg
 where_given word None = []
 where_given word (Some number) = with_number word number ∷ []
 

@@ -10,7 +10,7 @@ use crate::flags::Flag;
 use crate::kept::KeptArguments;
 use crate::limits::Limits;
 use crate::memory::Memory;
-use crate::words::Word;
+use crate::words::{NumberWord, ObjectWord, TextWord};
 use git_names::{Format, Oid};
 use git_pkt::Kind;
 use std::alloc::Allocator;
@@ -44,14 +44,14 @@ impl<A: Allocator + Copy> Fetch<A> {
     pub fn wants(&self) -> &[Oid]
         ensures { result.now ≡ wants_in self.now.asked }
     {
-        self.arguments.ids(Word::Want)
+        self.arguments.ids(ObjectWord::Want)
     }
 
     /// The objects that the client has, in the order of their lines.
     pub fn haves(&self) -> &[Oid]
         ensures { result.now ≡ haves_in self.now.asked }
     {
-        self.arguments.ids(Word::Have)
+        self.arguments.ids(ObjectWord::Have)
     }
 
     /// Whether the request has the flag. It has no flag of another command.
@@ -100,14 +100,14 @@ impl<A: Allocator + Copy> Fetch<A> {
     pub fn shallows(&self) -> &[Oid]
         ensures { result.now ≡ shallows_in self.now.asked }
     {
-        self.arguments.ids(Word::Shallow)
+        self.arguments.ids(ObjectWord::Shallow)
     }
 
     /// The depth at which the history is to be cut off, if there is one; of several, the last.
     pub fn deepen(&self) -> Option<u64>
         ensures { result ≡ deepen_in self.now.asked }
     {
-        self.arguments.number(Word::Deepen)
+        self.arguments.number(NumberWord::Deepen)
     }
 
     /// Whether that depth counts from where the client's history is cut off now.
@@ -121,14 +121,14 @@ impl<A: Allocator + Copy> Fetch<A> {
     pub fn deepen_since(&self) -> Option<u64>
         ensures { result ≡ deepen_since_in self.now.asked }
     {
-        self.arguments.number(Word::DeepenSince)
+        self.arguments.number(NumberWord::DeepenSince)
     }
 
     /// The revision of the `deepen-not` line at index `i`, whose history is to be left out.
     pub fn deepen_not(&self, i: usize) -> Option<&[u8]>
         ensures { option_copied result ≡ slice_get (deepen_nots_in self.now.asked) i }
     {
-        self.arguments.text(Word::DeepenNot, i)
+        self.arguments.text(TextWord::DeepenNot, i)
     }
 
     /// The name of the reference of the `want-ref` line at index `i`, whose object is wanted.
@@ -137,7 +137,7 @@ impl<A: Allocator + Copy> Fetch<A> {
         ensures name { IfSome result (λ name. IsRefName name.now) }
         ensures bound { OnSome result (i + 1 < 2 ^ 64) }
     {
-        self.arguments.text(Word::WantRef, i)
+        self.arguments.text(TextWord::WantRef, i)
     }
 
     /// Whether the server is to send no pack before the request contains `done`.
@@ -151,7 +151,7 @@ impl<A: Allocator + Copy> Fetch<A> {
     pub fn filter(&self, i: usize) -> Option<&[u8]>
         ensures { option_copied result ≡ slice_get (filters_in self.now.asked) i }
     {
-        self.arguments.text(Word::Filter, i)
+        self.arguments.text(TextWord::Filter, i)
     }
 
     /// Whether it wants an object or a reference, or negotiates alone.
@@ -178,8 +178,8 @@ impl<A: Allocator + Copy> Fetch<A> {
         }
     }
 
-    /// What is kept of it.
-    pub(crate) fn arguments(&self) -> &KeptArguments<A>
+    /// Its arguments.
+    pub fn arguments(&self) -> &KeptArguments<A>
         ensures value { result.now ≡ self.now }
         ensures own { AreOf Command.Fetch self.now.asked }
     {

@@ -3,21 +3,23 @@ ghost use Rattle.std.specs.Prelude.{◌≡◌, ◌+◌, ◌^◌, ◌≤◌, ◌<
 ghost use Rattle.std.specs.Option.{option_copied, option_map};
 ghost use Rattle.git_pkt.specs.Packets.{longest_payload};
 ghost use Rattle.git_msg.specs.Arguments.{IsInRange, shown, with_text, written_text};
+ghost use Rattle.git_msg.specs.Asked.{number as number_after};
 
 use crate::arguments::Argument;
 use crate::flags::Flag;
 use crate::limits::{Budget, Limits};
 use crate::lists::ArgumentLists;
 use crate::memory::Memory;
-use crate::words::Word;
+use crate::parts::Texts;
+use crate::words::{NumberWord, ObjectWord, TextWord};
 use git_names::{Format, Oid};
 use git_pkt::Kind;
 use std::alloc::Allocator;
 use std::marker::Model;
 
-/// What is kept of a request of any command.
+/// What is kept of a request of any command: its arguments, each at most as often as they count.
 #[derive(Drop)]
-pub(crate) struct KeptArguments<A: Allocator + Copy> {
+pub struct KeptArguments<A: Allocator + Copy> {
     format: Format,
     budget: Budget,
     lists: ArgumentLists<A>,
@@ -44,9 +46,10 @@ impl<A: Allocator + Copy> Model for KeptArguments<A> {
 }
 
 impl<A: Allocator + Copy> KeptArguments<A> {
-    ghost use Rattle.git_msg.specs.Asked.{flag_among, ids, number, ref_prefixes_in, texts};
+    ghost use Rattle.git_msg.specs.Asked.{flag_among, ids, ref_prefixes_in, texts};
     ghost use Rattle.git_msg.specs.Kept.{HasNone, IsSound};
-    ghost use Rattle.git_msg.specs.Prefixes.{IsOrdered, OrdersPrefixes, SplitsAt, is_shown};
+    ghost use Rattle.git_msg.specs.Machine.HeldTexts.{texts_of};
+    ghost use Rattle.git_msg.specs.Prefixes.{IsOrdered, OrdersPrefixes};
 
     pub(crate) fn new(alloc: A, format: Format, limits: Limits) -> KeptArguments<A>
         ensures { HasNone format limits.args result }
@@ -78,33 +81,40 @@ impl<A: Allocator + Copy> KeptArguments<A> {
     }
 
     /// Whether the flag is among the arguments.
-    pub(crate) fn has(&self, flag: Flag) -> bool
+    pub fn has(&self, flag: Flag) -> bool
         ensures { result ≡ flag_among self.now.asked flag }
     {
         self.lists.has(flag)
     }
 
     /// The object names after the word, in the order of their lines.
-    pub(crate) fn ids(&self, word: Word) -> &[Oid]
+    pub fn ids(&self, word: ObjectWord) -> &[Oid]
         ensures { result.now ≡ ids word self.now.asked }
     {
         self.lists.ids(word)
     }
 
     /// The text at index `i` of those after the word, in the order of their lines.
-    pub(crate) fn text(&self, word: Word, i: usize) -> Option<&[u8]>
+    pub fn text(&self, word: TextWord, i: usize) -> Option<&[u8]>
         ensures value { option_copied result ≡ slice_get (texts word self.now.asked) i }
         ensures bound { OnSome result (i + 1 < 2 ^ 64) }
         ensures range { IfSome result (λ text. IsInRange self.now.format (with_text word text.now)) }
     {
-        self.lists.text(word, i)
+        self.lists.texts(word).get(i)
     }
 
     /// The number after the word, if there is one; of several, the last.
-    pub(crate) fn number(&self, word: Word) -> Option<u64>
-        ensures { result ≡ number word self.now.asked }
+    pub fn number(&self, word: NumberWord) -> Option<u64>
+        ensures { result ≡ number_after word self.now.asked }
     {
         self.lists.number(word)
+    }
+
+    /// The prefixes.
+    pub(crate) fn prefixes(&self) -> &Texts<A>
+        ensures { texts_of result.now ≡ ref_prefixes_in self.now.asked }
+    {
+        self.lists.texts(TextWord::RefPrefix)
     }
 
     /// The argument at index `i`, in the order in which they are written.
@@ -122,23 +132,6 @@ impl<A: Allocator + Copy> KeptArguments<A> {
         ensures same { OrdersPrefixes self.old self.new }
     {
         self.lists.put_in_order();
-    }
-
-    /// How many of the prefixes do not come after the name.
-    pub(crate) fn split(&self, name: &[u8]) -> usize
-        requires { IsOrdered (ref_prefixes_in self.now.asked) }
-        ensures { SplitsAt (ref_prefixes_in self.now.asked) name.now result }
-    {
-        self.lists.split(name)
-    }
-
-    /// Whether a name is shown, if this many of the prefixes do not come after it.
-    pub(crate) fn shows_at(&self, split: usize, name: &[u8]) -> bool
-        requires ordered { IsOrdered (ref_prefixes_in self.now.asked) }
-        requires split { SplitsAt (ref_prefixes_in self.now.asked) name.now split }
-        ensures { result ≡ is_shown (ref_prefixes_in self.now.asked) name.now }
-    {
-        self.lists.shows_at(split, name)
     }
 }
 

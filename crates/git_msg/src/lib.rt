@@ -37,6 +37,7 @@ pub use crate::arguments::{Argument, Command, read_argument};
 pub use crate::capabilities::{AGENT_LINE, Capability, read_capability};
 pub use crate::fetch::Fetch;
 pub use crate::flags::Flag;
+pub use crate::kept::KeptArguments;
 pub use crate::limits::Limits;
 pub use crate::listing::Listing;
 pub use crate::ls_refs::LsRefs;
@@ -55,5 +56,6 @@ pub use crate::response_lines::{
 };
 pub use crate::streams::{ReadRequest, RequestStream};
 pub use crate::texts::{after, error_message, is_error, is_word, split_at_first};
+pub use crate::words::{NumberWord, ObjectWord, TextWord, Word};
 pub use crate::writer::RequestWriter;
 pub use crate::writing::put_line;

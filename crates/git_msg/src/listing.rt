@@ -98,7 +98,7 @@ impl<A: Allocator + Copy> Listing<A> {
         requires { IsOrdered (ref_prefixes_in self.now.asked) }
         ensures { SplitsAt (ref_prefixes_in self.now.asked) name.now result }
     {
-        self.request.split(name)
+        self.request.prefixes().split(name)
     }
 
     /// Whether a name is shown, if this many of the prefixes do not come after it.
@@ -107,6 +107,6 @@ impl<A: Allocator + Copy> Listing<A> {
         requires split { SplitsAt (ref_prefixes_in self.now.asked) name.now split }
         ensures { result ≡ is_shown (ref_prefixes_in self.now.asked) name.now }
     {
-        self.request.shows_at(split, name)
+        self.request.prefixes().shows_at(split, name)
     }
 }

@@ -1,40 +1,34 @@
 //! The arguments of a request as they are stored: a list for each word before texts or object names.
-ghost use Rattle.std.specs.Prelude.{◌≡◌, ◌+◌, ◌<◌, ◌≤◌, ◌^◌, ◌++◌, [], List, Some, IfErr, MatchResult, OnErr, OnOk, OnSome, slice_get};
-ghost use Rattle.std.specs.Option.{option_copied, option_map};
+ghost use Rattle.std.specs.Prelude.{◌≡◌, ◌+◌, ◌<◌, false, ◌≤◌, ◌^◌, ◌++◌, ℕ, [], List, Some, IfErr, MatchResult, OnErr, OnOk, set, slice_get};
+ghost use Rattle.std.specs.Option.{option_map};
 ghost use Rattle.git_msg.specs.Arguments.{Arg, TakesMemory, shown, stored_in};
-ghost use Rattle.git_msg.specs.Asked.{with_one};
-ghost use Rattle.git_msg.specs.Flags.{is_held};
+ghost use Rattle.git_msg.specs.Asked.{ids, is_word, flag_among, number as number_after, texts, with_one};
 ghost use Rattle.git_msg.specs.Memory.{HasRefused};
 
 use crate::arguments::Argument;
 use crate::flags::{Flag, FlagSet};
 use crate::memory::Memory;
 use crate::parts::{Texts, id_at, keep_id, number_at, past_flag};
-use crate::words::{WORDS, Word};
+use crate::words::{NumberWord, ObjectWord, TextWord, WORDS, Word};
 use git_names::Oid;
 use git_pkt::Kind;
 use std::alloc::Allocator;
 
-/// What is stored of a request's arguments.
+/// What is stored of a request's arguments: each word has a list, at its place.
 #[derive(Drop)]
 pub(crate) struct ArgumentLists<A: Allocator + Copy> {
     flags: FlagSet,
-    ref_prefixes: Texts<A>,
-    wants: Vec<Oid, A>,
-    haves: Vec<Oid, A>,
-    filters: Texts<A>,
-    shallows: Vec<Oid, A>,
-    deepen: Option<u64>,
-    deepen_since: Option<u64>,
-    deepen_nots: Texts<A>,
-    want_refs: Texts<A>,
-    oids: Vec<Oid, A>,
+    objects: [Vec<Oid, A>; 4],
+    texts: [Texts<A>; 4],
+    numbers: [Option<u64>; 2],
 }
 
 impl<A: Allocator + Copy> ArgumentLists<A> {
-    ghost use Rattle.git_msg.specs.Machine.ArgumentLists.{held, held_at, ids_at, number_at as held_number, stored, texts_at};
+    ghost use Rattle.git_msg.specs.Arguments.{with_text};
+    ghost use Rattle.git_msg.specs.Machine.ArgumentLists.{held, held_at, stored, texts_at};
     ghost use Rattle.git_msg.specs.Machine.HeldTexts.{texts_of};
-    ghost use Rattle.git_msg.specs.Prefixes.{IsOrdered, Prunes, ShowAlike, SplitsAt, is_shown};
+    ghost use Rattle.git_msg.specs.Prefixes.{IsOrdered, Prunes, ShowAlike};
+    ghost use Rattle.git_msg.specs.declared.words.TextWord.{TextWord};
 
     pub(crate) fn new(alloc: A) -> ArgumentLists<A>
         ensures none { held result ≡ [] }
@@ -42,89 +36,58 @@ impl<A: Allocator + Copy> ArgumentLists<A> {
     {
         ArgumentLists {
             flags: FlagSet::new(),
-            ref_prefixes: Texts::new(alloc),
-            wants: Vec::new(alloc),
-            haves: Vec::new(alloc),
-            filters: Texts::new(alloc),
-            shallows: Vec::new(alloc),
-            deepen: None,
-            deepen_since: None,
-            deepen_nots: Texts::new(alloc),
-            want_refs: Texts::new(alloc),
-            oids: Vec::new(alloc),
+            objects: [
+                Vec::new(alloc),
+                Vec::new(alloc),
+                Vec::new(alloc),
+                Vec::new(alloc),
+            ],
+            texts: [
+                Texts::new(alloc),
+                Texts::new(alloc),
+                Texts::new(alloc),
+                Texts::new(alloc),
+            ],
+            numbers: [None; 2],
         }
     }
 
     pub(crate) fn has(&self, flag: Flag) -> bool
-        ensures { result ≡ is_held self.now.flags flag }
+        ensures { result ≡ flag_among (held self.now) flag }
     {
         self.flags.has(flag)
     }
 
     /// The object names after the word, in the order of their lines.
-    pub(crate) fn ids(&self, word: Word) -> &[Oid]
-        ensures { result.now ≡ ids_at self.now word }
+    pub(crate) fn ids(&self, word: ObjectWord) -> &[Oid]
+        ensures { result.now ≡ ids word (held self.now) }
     {
-        match word {
-            Word::Want => &self.wants,
-            Word::Have => &self.haves,
-            Word::Shallow => &self.shallows,
-            Word::ObjectId => &self.oids,
-            _ => &[],
-        }
+        &self.objects[word.place()]
     }
 
-    /// The text at index `i` of those after the word, in the order of their lines.
-    pub(crate) fn text(&self, word: Word, i: usize) -> Option<&[u8]>
-        ensures value { option_copied result ≡ slice_get (texts_at self.now word) i }
-        ensures bound { OnSome result (i + 1 < 2 ^ 64) }
+    /// The texts after the word, in the order of their lines.
+    pub(crate) fn texts(&self, word: TextWord) -> &Texts<A>
+        ensures { texts_of result.now ≡ texts word (held self.now) }
     {
-        match word {
-            Word::RefPrefix => self.ref_prefixes.get(i),
-            Word::Filter => self.filters.get(i),
-            Word::DeepenNot => self.deepen_nots.get(i),
-            Word::WantRef => self.want_refs.get(i),
-            _ => None,
-        }
+        &self.texts[word.place()]
     }
 
     /// The number after the word, if there is one; of several, the last.
-    pub(crate) fn number(&self, word: Word) -> Option<u64>
-        ensures { result ≡ held_number self.now word }
+    pub(crate) fn number(&self, word: NumberWord) -> Option<u64>
+        ensures { result ≡ number_after word (held self.now) }
     {
-        match word {
-            Word::Deepen => self.deepen,
-            Word::DeepenSince => self.deepen_since,
-            _ => None,
-        }
+        self.numbers[word.place()]
     }
 
     /// Sorts the prefixes, and drops those that begin with another one: the same names begin with one of the rest.
     pub(crate) fn put_in_order(&mut self)
-        ensures ordered { IsOrdered (texts_of self.new.ref_prefixes) }
-        ensures alike { ShowAlike (texts_of self.old.ref_prefixes) (texts_of self.new.ref_prefixes) }
-        ensures prunes { Prunes (texts_of self.old.ref_prefixes) (texts_of self.new.ref_prefixes) }
-        ensures others { self.new ≡ record self.old { ref_prefixes = self.new.ref_prefixes } }
+        ensures ordered { IsOrdered (texts_at self.new TextWord.RefPrefix) }
+        ensures alike { ShowAlike (texts_at self.old TextWord.RefPrefix) (texts_at self.new TextWord.RefPrefix) }
+        ensures prunes { Prunes (texts_at self.old TextWord.RefPrefix) (texts_at self.new TextWord.RefPrefix) }
+        ensures others { (word : Word) → is_word word (Word.Text TextWord.RefPrefix) ≡ false → held_at self.new word ≡ held_at self.old word }
         ensures stored { stored self.new ≤ stored self.old }
     {
-        self.ref_prefixes.put_in_order();
-    }
-
-    /// How many of the prefixes do not come after the name.
-    pub(crate) fn split(&self, name: &[u8]) -> usize
-        requires { IsOrdered (texts_of self.now.ref_prefixes) }
-        ensures { SplitsAt (texts_of self.now.ref_prefixes) name.now result }
-    {
-        self.ref_prefixes.split(name)
-    }
-
-    /// Whether a name is shown, if this many of the prefixes do not come after it.
-    pub(crate) fn shows_at(&self, split: usize, name: &[u8]) -> bool
-        requires ordered { IsOrdered (texts_of self.now.ref_prefixes) }
-        requires split { SplitsAt (texts_of self.now.ref_prefixes) name.now split }
-        ensures { result ≡ is_shown (texts_of self.now.ref_prefixes) name.now }
-    {
-        self.ref_prefixes.shows_at(split, name)
+        self.texts[TextWord::RefPrefix.place()].put_in_order();
     }
 
     /// The argument at index `i`, in the order in which they are written.
@@ -152,16 +115,15 @@ impl<A: Allocator + Copy> ArgumentLists<A> {
                 None => Ok(Argument::Flag(flag)),
                 Some(next) => Err(next),
             },
-            Word::RefPrefix => Ok(Argument::RefPrefix(self.ref_prefixes.at(i)?)),
-            Word::Want => Ok(Argument::Want(*id_at(&self.wants, i)?)),
-            Word::Have => Ok(Argument::Have(*id_at(&self.haves, i)?)),
-            Word::Filter => Ok(Argument::Filter(self.filters.at(i)?)),
-            Word::Shallow => Ok(Argument::Shallow(*id_at(&self.shallows, i)?)),
-            Word::Deepen => Ok(Argument::Deepen(number_at(self.deepen, i)?)),
-            Word::DeepenSince => Ok(Argument::DeepenSince(number_at(self.deepen_since, i)?)),
-            Word::DeepenNot => Ok(Argument::DeepenNot(self.deepen_nots.at(i)?)),
-            Word::WantRef => Ok(Argument::WantRef(self.want_refs.at(i)?)),
-            Word::ObjectId => Ok(Argument::ObjectId(*id_at(&self.oids, i)?)),
+            Word::Object(word) => {
+                let id = *id_at(&self.objects[word.place()], i)?;
+                Ok(Argument::Object(word, id))
+            }
+            Word::Text(word) => Ok(Argument::Text(word, self.texts[word.place()].at(i)?)),
+            Word::Number(word) => {
+                let number = number_at(self.numbers[word.place()], i)?;
+                Ok(Argument::Number(word, number))
+            }
         }
     }
 }
@@ -180,18 +142,16 @@ impl<A: Memory + Copy> ArgumentLists<A> {
         ensures memory { OnErr result (HasRefused A.refuses (stored self.old + stored_in (shown argument.now))) }
     {
         match argument {
-            Argument::Flag(flag) => self.flags.add(*flag),
-            Argument::RefPrefix(prefix) => self.ref_prefixes.keep(prefix)?,
-            Argument::Want(id) => keep_id(&mut self.wants, *id)?,
-            Argument::Have(id) => keep_id(&mut self.haves, *id)?,
-            Argument::Filter(spec) => self.filters.keep(spec)?,
-            Argument::Shallow(id) => keep_id(&mut self.shallows, *id)?,
-            Argument::Deepen(depth) => self.deepen = Some(*depth),
-            Argument::DeepenSince(time) => self.deepen_since = Some(*time),
-            Argument::DeepenNot(revision) => self.deepen_nots.keep(revision)?,
-            Argument::WantRef(name) => self.want_refs.keep(name)?,
-            Argument::ObjectId(id) => keep_id(&mut self.oids, *id)?,
+            Argument::Flag(flag) => {
+                self.flags.add(*flag);
+                Ok(())
+            }
+            Argument::Object(word, id) => keep_id(&mut self.objects[word.place()], *id),
+            Argument::Text(word, text) => self.texts[word.place()].keep(text),
+            Argument::Number(word, number) => {
+                self.numbers[word.place()] = Some(*number);
+                Ok(())
+            }
         }
-        Ok(())
     }
 }

@@ -8,7 +8,8 @@ use crate::flags::Flag;
 use crate::kept::KeptArguments;
 use crate::limits::Limits;
 use crate::memory::Memory;
-use crate::words::Word;
+use crate::parts::Texts;
+use crate::words::TextWord;
 use git_names::Format;
 use git_pkt::Kind;
 use std::alloc::Allocator;
@@ -37,7 +38,8 @@ impl<A: Allocator + Copy> LsRefs<A> {
     ghost use Rattle.git_msg.specs.Arguments.{most_text};
     ghost use Rattle.git_msg.specs.Asked.{flag_among, ref_prefixes_in, peel_in, symrefs_in, unborn_in};
     ghost use Rattle.git_msg.specs.Kept.{AreOf, HasNone};
-    ghost use Rattle.git_msg.specs.Prefixes.{IsOrdered, OrdersPrefixes, SplitsAt, is_shown};
+    ghost use Rattle.git_msg.specs.Machine.HeldTexts.{texts_of};
+    ghost use Rattle.git_msg.specs.Prefixes.{IsOrdered, OrdersPrefixes};
 
     /// Whether the request has the flag. It has no flag of another command.
     pub fn has(&self, flag: Flag) -> bool
@@ -73,7 +75,7 @@ impl<A: Allocator + Copy> LsRefs<A> {
         ensures bound { OnSome result (i + 1 < 2 ^ 64) }
         ensures fits { IfSome result (λ prefix. length prefix.now ≤ most_text) }
     {
-        self.arguments.text(Word::RefPrefix, i)
+        self.arguments.text(TextWord::RefPrefix, i)
     }
 
     /// Sorts the prefixes, and drops those that begin with another one: the same names begin with one of the rest.
@@ -84,21 +86,10 @@ impl<A: Allocator + Copy> LsRefs<A> {
         self.arguments.put_in_order();
     }
 
-    /// How many of the prefixes do not come after the name.
-    pub(crate) fn split(&self, name: &[u8]) -> usize
-        requires { IsOrdered (ref_prefixes_in self.now.asked) }
-        ensures { SplitsAt (ref_prefixes_in self.now.asked) name.now result }
+    pub(crate) fn prefixes(&self) -> &Texts<A>
+        ensures { texts_of result.now ≡ ref_prefixes_in self.now.asked }
     {
-        self.arguments.split(name)
-    }
-
-    /// Whether a name is shown, if this many of the prefixes do not come after it.
-    pub(crate) fn shows_at(&self, split: usize, name: &[u8]) -> bool
-        requires ordered { IsOrdered (ref_prefixes_in self.now.asked) }
-        requires split { SplitsAt (ref_prefixes_in self.now.asked) name.now split }
-        ensures { result ≡ is_shown (ref_prefixes_in self.now.asked) name.now }
-    {
-        self.arguments.shows_at(split, name)
+        self.arguments.prefixes()
     }
 
     pub(crate) fn new(alloc: A, format: Format, limits: Limits) -> LsRefs<A>
@@ -109,8 +100,8 @@ impl<A: Allocator + Copy> LsRefs<A> {
         }
     }
 
-    /// What is kept of it.
-    pub(crate) fn arguments(&self) -> &KeptArguments<A>
+    /// Its arguments.
+    pub fn arguments(&self) -> &KeptArguments<A>
         ensures value { result.now ≡ self.now }
         ensures own { AreOf Command.LsRefs self.now.asked }
     {

@@ -7,7 +7,7 @@ use crate::flags::Flag;
 use crate::kept::KeptArguments;
 use crate::limits::Limits;
 use crate::memory::Memory;
-use crate::words::Word;
+use crate::words::ObjectWord;
 use git_names::{Format, Oid};
 use git_pkt::Kind;
 use std::alloc::Allocator;
@@ -54,7 +54,7 @@ impl<A: Allocator + Copy> ObjectInfo<A> {
     pub fn oids(&self) -> &[Oid]
         ensures { result.now ≡ oids_in self.now.asked }
     {
-        self.arguments.ids(Word::ObjectId)
+        self.arguments.ids(ObjectWord::ObjectId)
     }
 
     pub(crate) fn new(alloc: A, format: Format, limits: Limits) -> ObjectInfo<A>
@@ -65,8 +65,8 @@ impl<A: Allocator + Copy> ObjectInfo<A> {
         }
     }
 
-    /// What is kept of it.
-    pub(crate) fn arguments(&self) -> &KeptArguments<A>
+    /// Its arguments.
+    pub fn arguments(&self) -> &KeptArguments<A>
         ensures value { result.now ≡ self.now }
         ensures own { AreOf Command.ObjectInfo self.now.asked }
     {

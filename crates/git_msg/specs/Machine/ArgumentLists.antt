@@ -1,50 +1,69 @@
 -- What is stored of a request's arguments, as a list in the order in which they are written, and how many bytes that are: 33
 -- for an object name, and those of the pools of texts.
-use Rattle.std.specs.Prelude.{ℕ, ◌+◌, ◌*◌, Option, None, List, [], length, map}
+use Rattle.std.specs.Prelude.{ℕ, ◌+◌, ◌*◌, Bool, false, Option, None, List, [], ◌∷◌, get_or, if◌then◌else◌, length, map, sum_by}
 use Rattle.std.specs.List.{flat_map}
+use Rattle.std.specs.Str.{bytes_eq}
 use Rattle.git_names.specs.ObjectName.{ObjectName}
 use Rattle.git_msg.specs.declared.lists.ArgumentLists.{ArgumentLists}
+use Rattle.git_msg.specs.declared.flags.Flag.{Flag}
+use Rattle.git_msg.specs.declared.flags.FlagSet.{FlagSet}
 use Rattle.git_msg.specs.declared.words.Word.{Word}
-use Rattle.git_msg.specs.declared.words.Word.TheVariants.{Flag as of_flag, RefPrefix as ref_prefix, Want as want, Have as have, Filter as filter_spec}
-use Rattle.git_msg.specs.declared.words.Word.TheVariants.{Shallow as shallow, Deepen as deepen, DeepenSince as deepen_since, DeepenNot as deepen_not}
-use Rattle.git_msg.specs.declared.words.Word.TheVariants.{WantRef as want_ref, ObjectId as object_id}
-use Rattle.git_msg.specs.Arguments.{Arg, Shape, flag_word, object_name, depth_number, time_number, row, with_id, with_text, words}
+use Rattle.git_msg.specs.declared.words.Word.TheVariants.{Flag as of_flag, Object as of_object, Text as of_text, Number as of_number}
+use Rattle.git_msg.specs.declared.words.ObjectWord.{ObjectWord}
+use Rattle.git_msg.specs.declared.words.TextWord.{TextWord}
+use Rattle.git_msg.specs.declared.words.NumberWord.{NumberWord}
+use Rattle.git_msg.specs.Arguments.{Arg, with_id, with_text, words}
 use Rattle.git_msg.specs.Asked.{where_asked, where_given}
-use Rattle.git_msg.specs.Flags.{is_held}
+use Rattle.git_msg.specs.Flags.{flag_row}
 use Rattle.git_msg.specs.Machine.HeldTexts.{texts_of, texts_stored}
 
--- the arguments of a word: of these values, those that its shape allows
-abbrev pub with_values : Shape → Word → List ObjectName → List (List ℕ) → Option ℕ → List Arg
-with_values flag_word word ids texts number = []
-with_values object_name word ids texts number = map (with_id word) ids
-with_values depth_number word ids texts number = where_given word number
-with_values time_number word ids texts number = where_given word number
-with_values _ word ids texts number = map (with_text word) texts
+-- the index of a flag among all flags
+abbrev pub place_among : List Word → Flag → ℕ
+place_among [] flag = 0
+place_among (of_flag first ∷ others) flag =
+    if bytes_eq (flag_row flag).keyword (flag_row first).keyword then 0 else place_among others flag + 1
+place_among (first ∷ others) flag = place_among others flag
+
+abbrev pub place_of : Flag → ℕ
+place_of flag = place_among words flag
+
+-- the index of a word's list
+abbrev pub object_place : ObjectWord → ℕ
+object_place ObjectWord.Want = 0
+object_place ObjectWord.Have = 1
+object_place ObjectWord.Shallow = 2
+object_place ObjectWord.ObjectId = 3
+
+abbrev pub text_place : TextWord → ℕ
+text_place TextWord.RefPrefix = 0
+text_place TextWord.Filter = 1
+text_place TextWord.DeepenNot = 2
+text_place TextWord.WantRef = 3
+
+abbrev pub number_place : NumberWord → ℕ
+number_place NumberWord.Deepen = 0
+number_place NumberWord.DeepenSince = 1
+
+-- whether the flag is set in the set that a request keeps
+abbrev pub is_held : FlagSet → Flag → Bool
+is_held held flag = get_or held.set (place_of flag) false
 
 module _ {A : Type 0} where
-  abbrev pub ids_at : ArgumentLists A → Word → List ObjectName
-  ids_at q want = q.wants.items
-  ids_at q have = q.haves.items
-  ids_at q shallow = q.shallows.items
-  ids_at q object_id = q.oids.items
-  ids_at q _ = []
+  abbrev pub ids_at : ArgumentLists A → ObjectWord → List ObjectName
+  ids_at q word = get_or (map (λ l. l.items) q.objects) (object_place word) []
 
-  abbrev pub texts_at : ArgumentLists A → Word → List (List ℕ)
-  texts_at q ref_prefix = texts_of q.ref_prefixes
-  texts_at q filter_spec = texts_of q.filters
-  texts_at q deepen_not = texts_of q.deepen_nots
-  texts_at q want_ref = texts_of q.want_refs
-  texts_at q _ = []
+  abbrev pub texts_at : ArgumentLists A → TextWord → List (List ℕ)
+  texts_at q word = get_or (map texts_of q.texts) (text_place word) []
 
-  abbrev pub number_at : ArgumentLists A → Word → Option ℕ
-  number_at q deepen = q.deepen
-  number_at q deepen_since = q.deepen_since
-  number_at q _ = None
+  abbrev pub number_at : ArgumentLists A → NumberWord → Option ℕ
+  number_at q word = get_or q.numbers (number_place word) None
 
   -- the arguments of a word
   abbrev pub held_at : ArgumentLists A → Word → List Arg
   held_at q (of_flag flag) = where_asked (is_held q.flags flag) flag
-  held_at q word = with_values (row word).shape word (ids_at q word) (texts_at q word) (number_at q word)
+  held_at q (of_object word) = map (with_id word) (ids_at q word)
+  held_at q (of_text word) = map (with_text word) (texts_at q word)
+  held_at q (of_number word) = where_given word (number_at q word)
 
   -- all arguments
   abbrev pub held : ArgumentLists A → List Arg
@@ -52,25 +71,10 @@ module _ {A : Type 0} where
 
   -- how many bytes are stored
   abbrev pub stored : ArgumentLists A → ℕ
-  stored q =
-      33 * (length q.wants.items + length q.haves.items + length q.shallows.items + length q.oids.items)
-      + (texts_stored q.ref_prefixes + texts_stored q.filters + texts_stored q.deepen_nots + texts_stored q.want_refs)
+  stored q = 33 * sum_by (λ l. length l.items) q.objects + sum_by texts_stored q.texts
 
   -- the same with each field named, so that none can be added without being counted
   abbrev pub stored_by_fields : ArgumentLists A → ℕ
   stored_by_fields q =
-      let record {
-        flags = flags;
-        ref_prefixes = ref_prefixes;
-        wants = wants;
-        haves = haves;
-        filters = filters;
-        shallows = shallows;
-        deepen = depth;
-        deepen_since = time;
-        deepen_nots = deepen_nots;
-        want_refs = want_refs;
-        oids = oids;
-      } = q in
-      33 * (length wants.items + length haves.items + length shallows.items + length oids.items)
-      + (texts_stored ref_prefixes + texts_stored filters + texts_stored deepen_nots + texts_stored want_refs)
+      let record { flags = flags; objects = objects; texts = texts; numbers = numbers } = q in
+      33 * sum_by (λ l. length l.items) objects + sum_by texts_stored texts

@@ -1,6 +1,6 @@
 use Rattle.std.proofs.Common.{rules, sym, ◌∙◌}
 use Rattle.std.proofs.lemmas.Result.{err_from_is_err_and}
-use Rattle.git_msg.proofs.KeptArguments.{as_written}
+use Rattle.git_msg.proofs.FurtherArguments.{as_written}
 use Rattle.git_msg.proofs.StepFacts.{unread, kept, unkept, completed, end_refused}
 use Rattle.git_msg.proofs.reader.RequestReader.take_argument.Goals as goal
 

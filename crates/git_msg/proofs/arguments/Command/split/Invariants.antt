@@ -1,0 +1,7 @@
+use Rattle.std.proofs.Common.{◌≤◌, length}
+use Rattle.git_msg.proofs.HeadWords.{BeginsWithNone}
+use Rattle.git_msg.proofs.arguments.Command.split.Given as goal
+
+-- the text begins with none of the words from this place on
+abbrev pub invariant-words : goal.invariant-words
+invariant-words l = record { within : l.left ≤ length l.words; none : BeginsWithNone l.fn.self l.left l.text }
