@@ -1,13 +1,15 @@
 -- The words at the head of lines: a line has one, and each is in the list of its command once.
 use Rattle.std.proofs.Common.{arith, ◌≡◌, ◌≢◌, ℕ, ◌+◌, ◌<◌, ◌≤◌, ◌==◌, Bool, true, false, not, ◌&&◌, List, [], ◌∷◌, ◌++◌, length, get_or, refl, sym, ap, ◌∙◌}
-use Rattle.std.proofs.Common.{drop, subst, if◌then◌else◌, Option, Some, None, append-nil, length-append}
+use Rattle.std.proofs.Common.{drop, subst, suc, inl, inr, if◌then◌else◌, Option, Some, None, append-nil, length-append}
 use Rattle.std.specs.List.{before_first}
 use Rattle.std.specs.Str.{bytes_eq}
 use Rattle.std.proofs.Math.Nat.{eq-or-lt_of_le}
 use Rattle.std.proofs.Math.Seq.{drop-append_seam}
 use Rattle.std.proofs.lemmas.Bool.{false_from_ne_true}
+use Rattle.std.proofs.lemmas.List.{get_or_default}
 use Rattle.std.proofs.lemmas.Slice.Eq.{bytes_eq-Decides}
 use Rattle.git_msg.specs.declared.arguments.Command.{Command}
+use Rattle.git_msg.specs.declared.arguments.Command.TheVariants.{LsRefs, Fetch, ObjectInfo}
 use Rattle.git_msg.specs.declared.flags.Flag.{Flag}
 use Rattle.git_msg.specs.declared.words.Word.{Word}
 use Rattle.git_msg.specs.declared.words.Word.TheVariants.{Flag as of_flag, Object as of_object, Text as of_text, Number as of_number}
@@ -108,22 +110,46 @@ there (of_text TextWord.Filter) d = (omega arith, refl)
 there (of_number NumberWord.Deepen) d = (omega arith, refl)
 there word d = (omega arith, refl)
 
--- if a line begins with none of a command's words, it is no argument
-abbrev pub BeginsWithNone : Command → ℕ → List ℕ → Type 0
-BeginsWithNone command from line =
-    (k : ℕ) (d : Word) (value : List ℕ) → from ≤ k → k < length (words_of command) → line ≢ line_of (get_or (words_of command) k d) value
+-- the words of a command belong to it
+abbrev AreOf : Command → List Word → Type 0
+AreOf command [] = Unit {0}
+AreOf command (word ∷ others) = ((row word).command ≡ command) × AreOf command others
 
-pub none_there : (command : Command) (line : List ℕ) → BeginsWithNone command 0 line → IsNoArgument command line
-none_there command line none word value of h =
+own_words : (command : Command) → AreOf command (words_of command)
+own_words LsRefs = (refl, refl, refl, refl, tt)
+own_words Fetch = (refl, refl, refl, refl, refl, refl, refl, refl, refl, refl, refl, refl, refl, refl, refl, tt)
+own_words ObjectInfo = (refl, refl, tt)
+
+own_among : (command : Command) (order : List Word) (i : ℕ) (d : Word) → AreOf command order → i < length order → (row (get_or order i d)).command ≡ command
+own_among command [] i d of within = absurd (omega arith)
+own_among command (word ∷ others) 0 d of within = of.0
+own_among command (word ∷ others) (suc i) d of within = own_among command others i d of.1 (omega arith)
+
+pub own_command : (command : Command) (order : List Word) (i : ℕ) (d : Word) → order ≡ words_of command → i < length order
+    → (row (get_or order i d)).command ≡ command
+own_command command order i d is within = own_among command order i d (subst (AreOf command) (sym is) (own_words command)) within
+
+-- a line that begins with none of a list's words from this place on
+abbrev pub BeginsWithNone : List Word → ℕ → List ℕ → Type 0
+BeginsWithNone order from line = (k : ℕ) (d : Word) (value : List ℕ) → from ≤ k → k < length order → line ≢ line_of (get_or order k d) value
+
+pub none_past : (order : List Word) (line : List ℕ) (from : ℕ) → length order ≤ from → BeginsWithNone order from line
+none_past order line from past k d value above below h = omega (arith, past, above, below)
+
+-- nor with the one before it
+pub none_at : (order : List Word) (line : List ℕ) (at : ℕ) (e : Word) → at < length order → BeginsWithNone order (at + 1) line
+    → ((value : List ℕ) → line ≢ line_of (get_or order at e) value) → BeginsWithNone order at line
+none_at order line at e within later not k d value above below h = elim (eq-or-lt_of_le above) [
+  | inl here ↦
+      let same : get_or order k d ≡ get_or order at e = ap (λ (n : ℕ). get_or order n d) (sym here) ∙ get_or_default order at d e within in
+      not value (h ∙ ap (λ (w : Word). line_of w value) same)
+  | inr past ↦ later k d value (omega (arith, past)) below h
+]
+
+-- if it begins with none of a command's words, it is no argument
+pub none_there : (command : Command) (order : List Word) (line : List ℕ) → order ≡ words_of command → BeginsWithNone order 0 line → IsNoArgument command line
+none_there command order line is none word value of h =
     let at : get_or (words_of command) (place_in word) word ≡ word =
     subst (λ (c : Command). get_or (words_of c) (place_in word) word ≡ word) of (there word word).1 in
     let within : place_in word < length (words_of command) = subst (λ (c : Command). place_in word < length (words_of c)) of (there word word).0 in
-    none (place_in word) word value (omega arith) within (h ∙ sym (ap (λ (w : Word). line_of w value) at))
-
--- a line that does not begin with one more of them
-pub none_at : (command : Command) (line : List ℕ) (at : ℕ) (first : Word) → BeginsWithNone command (at + 1) line
-    → ((d : Word) → get_or (words_of command) at d ≡ first) → ((value : List ℕ) → line ≢ line_of first value) → BeginsWithNone command at line
-none_at command line at first later is not k d value above below h = elim (eq-or-lt_of_le above) [
-  | inl here ↦ not value (h ∙ ap (λ (w : Word). line_of w value) (ap (λ (n : ℕ). get_or (words_of command) n d) (sym here) ∙ is d))
-  | inr past ↦ later k d value (omega (arith, past)) below h
-]
+    (rw is at none) (place_in word) word value (omega arith) within (h ∙ sym (ap (λ (w : Word). line_of w value) at))

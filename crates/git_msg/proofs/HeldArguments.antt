@@ -1,8 +1,8 @@
 -- The lists that are stored of a request are its arguments in their order, and looking up in these finds what is stored.
 use Rattle.std.proofs.Common.{arith, ◌≡◌, ℕ, ◌+◌, ◌<◌, ◌==◌, ◌||◌, Bool, true, false, Option, Some, None, List, [], ◌∷◌, ◌++◌, map, refl, sym}
-use Rattle.std.proofs.Common.{ap, ◌∙◌, get_or, length, if◌then◌else◌}
+use Rattle.std.proofs.Common.{ap, ◌∙◌, add-one, drop, drop-cons, get_or, length, if◌then◌else◌}
 use Rattle.std.specs.Prelude.{All, Vec, set}
-use Rattle.std.specs.List.{filter_map}
+use Rattle.std.specs.List.{filter_map, flat_map}
 use Rattle.std.proofs.lemmas.Bool.{cases_eq}
 use Rattle.std.proofs.lemmas.Grind.{common_steps, get_or-set_at}
 use Rattle.std.proofs.lemmas.List.{map-append, map-set, length-map, get_or-set_other}
@@ -18,13 +18,13 @@ use Rattle.git_msg.specs.declared.words.ObjectWord.{ObjectWord}
 use Rattle.git_msg.specs.declared.words.TextWord.{TextWord}
 use Rattle.git_msg.specs.declared.words.NumberWord.{NumberWord}
 use Rattle.git_msg.specs.Arguments.{Arg, alone, with_id, with_number, with_text, words}
-use Rattle.git_msg.specs.Asked.{is_word, is_of, of_word, last_counts, all_or_last, AreInOrder, flag_among, values}
+use Rattle.git_msg.specs.Asked.{is_word, is_of, of_word, last_counts, all_or_last, AreInOrder, flag_among, value_in}
 use Rattle.git_msg.specs.Asked.{id_of, ids, number, number_of, text_of, texts, where_asked, where_given, with_one}
 use Rattle.git_msg.specs.Machine.ArgumentLists.{held, held_at, ids_at, is_held, number_at, number_place, object_place, place_of, text_place, texts_at}
 use Rattle.git_msg.specs.Machine.HeldTexts.{texts_of}
 use Rattle.git_msg.specs.Texts.{last_of}
 use Rattle.git_msg.proofs.HeadWords.{itself, same_word}
-use Rattle.git_msg.proofs.WrittenArguments.{added, any_of, by_value, found, in_order, is_some, with_one_more}
+use Rattle.git_msg.proofs.WrittenArguments.{added, any_of, by_value, found, in_order, is_some, same_lists, with_one_more}
 
 -- words are the same just where their places are
 flag_place : (a b : Flag) → (place_of a == place_of b) ≡ is_word (of_flag a) (of_flag b)
@@ -135,7 +135,7 @@ module _ {A : Type 0} (q : ArgumentLists A) where
   held_in_order = in_order (held_at q) held_own held_count
 
   -- looking up
-  values_are : {X : Type 0} (value : Arg → Option X) (word : Word) → values value word (held q) ≡ filter_map value (held_at q word)
+  values_are : {X : Type 0} (value : Arg → Option X) (word : Word) → filter_map (value_in value word) (held q) ≡ filter_map value (held_at q word)
   values_are value word = by_value value word (held q) ∙ ap (filter_map value) (found (held_at q) held_own word)
 
   pub ids_are : (word : ObjectWord) → ids word (held q) ≡ ids_at q word
@@ -207,3 +207,30 @@ module _ {A : Type 0} (q : ArgumentLists A) where
           ∙ ap (λ (b : Bool). if b then Some number else number_at q of) (own_place of word))
           ∙ given_number of word (is_word (of_number of) (of_number word)) number (number_at q of) (same_own of word)
       adds other = refl
+
+  -- the lists where the texts of one word are others
+  pub elsewhere : (new : Texts A) (word : TextWord) → text_place word < length q.texts → (of : Word) → is_word of (of_text word) ≡ false
+      → held_at (record q { texts = set q.texts (text_place word) new }) of ≡ held_at q of
+  elsewhere new word there (of_text of) other =
+      ap (map (with_text of))
+      (rw (map-set texts_of q.texts (text_place word) new)
+      (replaced (map texts_of q.texts) (text_place word) (text_place of) (texts_of new) [] (omega (arith, there, length-map q.texts texts_of)))
+      ∙ ap (λ (b : Bool). if b then texts_of new else texts_at q of) (pool_place of word ∙ other))
+  elsewhere new word there of other = refl
+
+  -- nothing is held in empty lists
+  none_at : ((place : ℕ) → get_or q.flags.set place false ≡ false) → ((word : ObjectWord) → ids_at q word ≡ [])
+      → ((word : TextWord) → texts_at q word ≡ []) → ((word : NumberWord) → number_at q word ≡ None) → (word : Word) → held_at q word ≡ []
+  none_at flags objects texts numbers (of_flag flag) = ap (λ (set : Bool). where_asked set flag) (flags (place_of flag))
+  none_at flags objects texts numbers (of_object word) = ap (map (with_id word)) (objects word)
+  none_at flags objects texts numbers (of_text word) = ap (map (with_text word)) (texts word)
+  none_at flags objects texts numbers (of_number word) = ap (where_given word) (numbers word)
+
+  pub none_held : ((place : ℕ) → get_or q.flags.set place false ≡ false) → ((word : ObjectWord) → ids_at q word ≡ [])
+      → ((word : TextWord) → texts_at q word ≡ []) → ((word : NumberWord) → number_at q word ≡ None) → held q ≡ []
+  none_held flags objects texts numbers = same_lists (held_at q) (λ word. []) (none_at flags objects texts numbers) words
+
+  -- the arguments from a word on
+  pub from_word : (order : List Word) (i : ℕ) (d : Word) → i < length order
+      → flat_map (held_at q) (drop i order) ≡ held_at q (get_or order i d) ++ flat_map (held_at q) (drop (i + 1) order)
+  from_word order i d within = rw (add-one, drop-cons order i d within) refl

@@ -14,7 +14,7 @@ use Rattle.git_msg.specs.declared.words.TextWord.{TextWord}
 use Rattle.git_msg.specs.declared.words.NumberWord.{NumberWord}
 use Rattle.git_msg.specs.Arguments.{Arg, word_of, words}
 use Rattle.git_msg.specs.Asked.{is_word, is_of, of_word, last_counts, last_alone, all_or_last, counting, written, with_one, AreInOrder}
-use Rattle.git_msg.specs.Asked.{values}
+use Rattle.git_msg.specs.Asked.{value_in}
 use Rattle.git_msg.proofs.HeadWords.{apart}
 
 -- what counts of a word's arguments with one more after them
@@ -251,7 +251,7 @@ at_value : {X : Type 0} (value : Arg → Option X) (word : Word) (arg : Arg) (ar
 at_value value word arg args true is = refl
 at_value value word arg args false is = refl
 
-pub by_value : {X : Type 0} (value : Arg → Option X) (word : Word) (args : List Arg) → values value word args ≡ filter_map value (of_word word args)
+pub by_value : {X : Type 0} (value : Arg → Option X) (word : Word) (args : List Arg) → filter_map (value_in value word) args ≡ filter_map value (of_word word args)
 by_value value word [] = refl
 by_value value word (arg ∷ args) =
     ap (cons_option (if is_of word arg then value arg else None)) (by_value value word args) ∙ at_value value word arg args (is_of word arg) refl

@@ -112,19 +112,26 @@ abbrev pub number_of : Arg → Option ℕ
 number_of (with_number word number) = Some number
 number_of _ = None
 
--- the values after a word, in the order of their lines
-abbrev pub values : {X : Type 0} → (Arg → Option X) → Word → List Arg → List X
-values value word args = filter_map (λ arg. if is_of word arg then value arg else None) args
+-- such a value, if it comes after the word
+abbrev pub value_in : {X : Type 0} → (Arg → Option X) → Word → Arg → Option X
+value_in value word arg = if is_of word arg then value arg else None
 
+abbrev pub id_in : ObjectWord → Arg → Option ObjectName
+id_in word = value_in id_of (of_object word)
+
+abbrev pub text_in : TextWord → Arg → Option (List ℕ)
+text_in word = value_in text_of (of_text word)
+
+-- the values after a word, in the order of their lines
 abbrev pub ids : ObjectWord → List Arg → List ObjectName
-ids word = values id_of (of_object word)
+ids word = filter_map (id_in word)
 
 abbrev pub texts : TextWord → List Arg → List (List ℕ)
-texts word = values text_of (of_text word)
+texts word = filter_map (text_in word)
 
 -- the number after a word; of several, the last
 abbrev pub number : NumberWord → List Arg → Option ℕ
-number word args = last_of (values number_of (of_number word) args)
+number word args = last_of (filter_map (value_in number_of (of_number word)) args)
 
 -- whether the flag is among the arguments
 abbrev pub flag_among : List Arg → Flag → Bool

@@ -2,12 +2,12 @@
 use Rattle.std.proofs.Common.{arith, ◌≡◌, ℕ, Bool, true, false, Option, Some, None, List, refl, sym, ap, subst, ◌∙◌}
 use mathlib.Core.Path.{fun_ext}
 use Rattle.git_pkt.specs.Packets.{Pkt}
-use Rattle.git_msg.specs.Arguments.{Arg, Value, id_value, text_value}
-use Rattle.git_msg.specs.declared.words.Word.{Word}
-use Rattle.git_msg.specs.declared.words.Word.TheVariants.{Want as want, WantRef as want_ref}
+use Rattle.git_msg.specs.Arguments.{Arg, with_id, with_text}
+use Rattle.git_msg.specs.declared.words.ObjectWord.{ObjectWord}
+use Rattle.git_msg.specs.declared.words.TextWord.{TextWord}
 use Rattle.git_msg.specs.declared.offers.Offer.{Offer}
 use Rattle.git_server.specs.Repository.{Repository, RepoState}
-use Rattle.git_server.specs.Admission.{barred, barred_value}
+use Rattle.git_server.specs.Admission.{barred}
 use Rattle.git_server.specs.FetchAnswers.{IsNegotiated, is_ready_for}
 use Rattle.git_server.specs.Packs.{Manner, whole, broken}
 use Rattle.git_server.specs.Machine.AnsweredRequest.{IsAnswerFrom}
@@ -128,14 +128,14 @@ module _ (repo : Repository) (packs : List Arg → List ℕ) where
     breaks_any (Refusing fault) later none h = h
     breaks_any (Ended outcome) later none h = h
 
-  value_barred : (word : Word) (value : Value) → barred_value (with_packs packs repo) word value ≡ barred_value repo word value
-  value_barred want (id_value id) = refl
-  value_barred want_ref (text_value name) = refl
-  value_barred word value = refl
+  arg_barred : (arg : Arg) → barred (with_packs packs repo) arg ≡ barred repo arg
+  arg_barred (with_id ObjectWord.Want id) = refl
+  arg_barred (with_text TextWord.WantRef name) = refl
+  arg_barred arg = refl
 
   -- what a repository refuses of a request is the same
   pub barred_same : barred (with_packs packs repo) ≡ barred repo
-  barred_same = fun_ext (λ (arg : Arg). value_barred arg.word arg.value)
+  barred_same = fun_ext arg_barred
 
 -- an answer that has no byte of a pack does not break off
 pub unbroken : {A : Type 0} (repo : Repository) (answer : Answer A) (later : List Pkt) → HasNoPack repo answer → IsAnswerFrom broken repo answer later → ⊥

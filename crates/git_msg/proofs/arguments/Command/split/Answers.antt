@@ -1,6 +1,15 @@
 use Rattle.std.proofs.Common.{rules}
-use Rattle.git_msg.proofs.HeadWords.{none_at, none_there}
+use Rattle.git_msg.proofs.HeadWords.{none_at, none_past, none_there, own_command}
 use Rattle.git_msg.proofs.arguments.Command.split.Goals as goal
 
+pub words-init : goal.words-init
+words-init c = search (rules, none_past)
+
 pub words-preserved : goal.words-preserved
-words-preserved c = ?
+words-preserved c = search (rules, none_at)
+
+pub returns-clause-parts : goal.returns-clause-parts
+returns-clause-parts c = search (rules, none_there)
+
+pub returns-in-Some-clause-parts : goal.returns-in-Some-clause-parts
+returns-in-Some-clause-parts c = search (rules, own_command)
