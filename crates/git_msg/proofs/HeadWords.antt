@@ -1,6 +1,6 @@
 -- The words at the head of lines: a line has one, and each is in the list of its command once.
 use Rattle.std.proofs.Common.{arith, ◌≡◌, ◌≢◌, ℕ, ◌+◌, ◌<◌, ◌≤◌, ◌==◌, Bool, true, false, not, ◌&&◌, List, [], ◌∷◌, ◌++◌, length, get_or, refl, sym, ap, ◌∙◌}
-use Rattle.std.proofs.Common.{drop, subst, suc, inl, inr, if◌then◌else◌, Option, Some, None, append-nil, length-append}
+use Rattle.std.proofs.Common.{drop, subst, suc, zero, IfSome, inl, inr, if◌then◌else◌, Option, Some, None, append-nil, length-append}
 use Rattle.std.specs.List.{before_first}
 use Rattle.std.specs.Str.{bytes_eq}
 use Rattle.std.proofs.Math.Nat.{eq-or-lt_of_le}
@@ -116,13 +116,13 @@ AreOf command [] = Unit {0}
 AreOf command (word ∷ others) = ((row word).command ≡ command) × AreOf command others
 
 own_words : (command : Command) → AreOf command (words_of command)
-own_words LsRefs = (refl, refl, refl, refl, tt)
-own_words Fetch = (refl, refl, refl, refl, refl, refl, refl, refl, refl, refl, refl, refl, refl, refl, refl, tt)
-own_words ObjectInfo = (refl, refl, tt)
+own_words LsRefs = (refl, (refl, (refl, (refl, tt))))
+own_words Fetch = (refl, (refl, (refl, (refl, (refl, (refl, (refl, (refl, (refl, (refl, (refl, (refl, (refl, (refl, (refl, tt)))))))))))))))
+own_words ObjectInfo = (refl, (refl, tt))
 
 own_among : (command : Command) (order : List Word) (i : ℕ) (d : Word) → AreOf command order → i < length order → (row (get_or order i d)).command ≡ command
 own_among command [] i d of within = absurd (omega arith)
-own_among command (word ∷ others) 0 d of within = of.0
+own_among command (word ∷ others) zero d of within = of.0
 own_among command (word ∷ others) (suc i) d of within = own_among command others i d of.1 (omega arith)
 
 pub own_command : (command : Command) (order : List Word) (i : ℕ) (d : Word) → order ≡ words_of command → i < length order
@@ -137,19 +137,27 @@ pub none_past : (order : List Word) (line : List ℕ) (from : ℕ) → length or
 none_past order line from past k d value above below h = omega (arith, past, above, below)
 
 -- nor with the one before it
-pub none_at : (order : List Word) (line : List ℕ) (at : ℕ) (e : Word) → at < length order → BeginsWithNone order (at + 1) line
+pub none_at : (order : List Word) (line : List ℕ) (from at : ℕ) (e : Word) → from ≡ at + 1 → at < length order → BeginsWithNone order from line
     → ((value : List ℕ) → line ≢ line_of (get_or order at e) value) → BeginsWithNone order at line
-none_at order line at e within later not k d value above below h = elim (eq-or-lt_of_le above) [
+none_at order line from at e next within later not k d value above below h = elim (eq-or-lt_of_le above) [
   | inl here ↦
       let same : get_or order k d ≡ get_or order at e = ap (λ (n : ℕ). get_or order n d) (sym here) ∙ get_or_default order at d e within in
       not value (h ∙ ap (λ (w : Word). line_of w value) same)
-  | inr past ↦ later k d value (omega (arith, past)) below h
+  | inr past ↦ later k d value (omega (arith, past, next)) below h
 ]
 
 -- if it begins with none of a command's words, it is no argument
-pub none_there : (command : Command) (order : List Word) (line : List ℕ) → order ≡ words_of command → BeginsWithNone order 0 line → IsNoArgument command line
-none_there command order line is none word value of h =
+pub none_there : (command : Command) (order : List Word) (line : List ℕ) (from : ℕ) → order ≡ words_of command → from ≤ 0
+    → BeginsWithNone order from line → IsNoArgument command line
+none_there command order line from is first none word value of h =
     let at : get_or (words_of command) (place_in word) word ≡ word =
     subst (λ (c : Command). get_or (words_of c) (place_in word) word ≡ word) of (there word word).1 in
     let within : place_in word < length (words_of command) = subst (λ (c : Command). place_in word < length (words_of c)) of (there word word).0 in
     (rw is at none) (place_in word) word value (omega arith) within (h ∙ sym (ap (λ (w : Word). line_of w value) at))
+
+-- nor if its first word is none of the command's, or it is not the line of that word
+pub none_named : (command : Command) (line : List ℕ)
+    → IfSome (word_in line) (λ word. (row word).command ≡ command → (value : List ℕ) → line ≢ line_of word value) → IsNoArgument command line
+none_named command line none word value of h =
+    let found : word_in line ≡ Some word = ap word_in h ∙ word_heads word value in
+    subst (λ (o : Option Word). IfSome o (λ w. (row w).command ≡ command → (v : List ℕ) → line ≢ line_of w v)) found none of value h

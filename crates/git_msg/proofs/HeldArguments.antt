@@ -1,11 +1,12 @@
 -- The lists that are stored of a request are its arguments in their order, and looking up in these finds what is stored.
 use Rattle.std.proofs.Common.{arith, ◌≡◌, ℕ, ◌+◌, ◌<◌, ◌==◌, ◌||◌, Bool, true, false, Option, Some, None, List, [], ◌∷◌, ◌++◌, map, refl, sym}
-use Rattle.std.proofs.Common.{ap, ◌∙◌, add-one, drop, drop-cons, get_or, length, if◌then◌else◌}
+use Rattle.std.proofs.Common.{ap, inl, inr, ◌∙◌, add-one, drop, drop-cons, get_or, length, if◌then◌else◌}
 use Rattle.std.specs.Prelude.{All, Vec, set}
 use Rattle.std.specs.List.{filter_map, flat_map}
 use Rattle.std.proofs.lemmas.Bool.{cases_eq}
 use Rattle.std.proofs.lemmas.Grind.{common_steps, get_or-set_at}
-use Rattle.std.proofs.lemmas.List.{map-append, map-set, length-map, get_or-set_other}
+use Rattle.std.proofs.Math.Seq.{map-set_same}
+use Rattle.std.proofs.lemmas.List.{map-append, map-set, length-map, get_or-map, get_or-set_other}
 use Rattle.std.proofs.lemmas.List.Elements.{All-nil, All-cons, All-map}
 use Rattle.git_names.specs.ObjectName.{ObjectName}
 use Rattle.git_msg.specs.declared.flags.Flag.{Flag}
@@ -108,16 +109,20 @@ module _ {W L X : Type 0} (items : L → List X) (place : W → ℕ) (is_same : 
   longer old new word of x true h = let both = h refl in rw (both.0, both.1) (map-append (make word) old (x ∷ []))
   longer old new word of x false h = refl
 
-  one_longer : (ls : List L) (new : L) (word of : W) (x : X) → place word < length ls → items new ≡ get_or (map items ls) (place word) [] ++ x ∷ []
-      → map (make of) (get_or (map items (set ls (place word) new)) (place of) [])
+  one_longer : (ls : List L) (at : ℕ) (old new : L) (word of : W) (x : X) → at ≡ place word → at < length ls → old ≡ get_or ls at old
+      → items new ≡ items old ++ x ∷ []
+      → map (make of) (get_or (map items (set ls at new)) (place of) [])
       ≡ (if is_same of word then map (make of) (get_or (map items ls) (place of) []) ++ make word x ∷ [] else map (make of) (get_or (map items ls) (place of) []))
-  one_longer ls new word of x there is =
-      let now : get_or (map items (set ls (place word) new)) (place of) [] ≡ (if is_same of word then items new else get_or (map items ls) (place of) []) =
-      rw (map-set items ls (place word) new, ← place_is of word)
-      (replaced (map items ls) (place word) (place of) (items new) [] (omega (arith, there, length-map ls items))) in
-      ap (map (make of)) now
+  one_longer ls at old new word of x there within own is =
+      let was : get_or (map items ls) at [] ≡ items old = get_or-map items ls at old [] within ∙ ap items (sym own) in
+      let now : get_or (map items (set ls at new)) (place of) [] ≡ (if place of == at then items new else get_or (map items ls) (place of) []) =
+      ap (λ (l : List (List X)). get_or l (place of) []) (map-set items ls at new)
+      ∙ replaced (map items ls) at (place of) (items new) [] (omega (arith, within, length-map ls items)) in
+      let test : (place of == at) ≡ is_same of word = ap (λ (n : ℕ). place of == n) there ∙ place_is of word in
+      ap (map (make of)) (now ∙ ap (λ (b : Bool). if b then items new else get_or (map items ls) (place of) []) test)
       ∙ longer (get_or (map items ls) (place of) []) (items new) word of x (is_same of word)
-      (λ e. (same of word e, rw (same of word e) is))
+      (λ e. let here : place of ≡ at = ap place (same of word e) ∙ sym there in
+      (same of word e, is ∙ ap (λ (l : List X). l ++ x ∷ []) (sym was ∙ ap (λ (n : ℕ). get_or (map items ls) n []) (sym here))))
 
 module _ {A : Type 0} (q : ArgumentLists A) where
   held_own : (word : Word) → All (λ arg. is_of word arg ≡ true) (held_at q word)
@@ -132,10 +137,12 @@ module _ {A : Type 0} (q : ArgumentLists A) where
   held_count word = refl
 
   pub held_in_order : AreInOrder (held q)
+  unfolding held
   held_in_order = in_order (held_at q) held_own held_count
 
   -- looking up
   values_are : {X : Type 0} (value : Arg → Option X) (word : Word) → filter_map (value_in value word) (held q) ≡ filter_map value (held_at q word)
+  unfolding held
   values_are value word = by_value value word (held q) ∙ ap (filter_map value) (found (held_at q) held_own word)
 
   pub ids_are : (word : ObjectWord) → ids word (held q) ≡ ids_at q word
@@ -148,6 +155,7 @@ module _ {A : Type 0} (q : ArgumentLists A) where
   number_is word = ap last_of (values_are number_of (of_number word)) ∙ some_number word (number_at q word)
 
   pub flag_is : (flag : Flag) → flag_among (held q) flag ≡ is_held q.flags flag
+  unfolding held
   flag_is flag = any_of (of_flag flag) (held q) ∙ ap is_some (found (held_at q) held_own (of_flag flag)) ∙ some_flag (is_held q.flags flag) flag
 
   -- the lists after one more argument
@@ -155,6 +163,7 @@ module _ {A : Type 0} (q : ArgumentLists A) where
   Adds arg new = (word : Word) → held_at new word ≡ added word (held_at q word) arg
 
   adds_one : (new : ArgumentLists A) (arg : Arg) → Adds arg new → held new ≡ with_one (held q) arg
+  unfolding held
   adds_one new arg adds = with_one_more (held_at q) held_own held_count (held_at new) arg adds
 
   set_flag : (of flag : Flag) (is set : Bool) → (is ≡ true → of ≡ flag)
@@ -173,50 +182,73 @@ module _ {A : Type 0} (q : ArgumentLists A) where
           ∙ set_flag of flag (is_word (of_flag of) (of_flag flag)) (is_held q.flags of) (same_flag of flag)
       adds word = refl
 
-  pub adds_id : (new : Vec ObjectName A) (word : ObjectWord) (id : ObjectName) → object_place word < length q.objects
-      → new.items ≡ ids_at q word ++ id ∷ [] → held (record q { objects = set q.objects (object_place word) new }) ≡ with_one (held q) (with_id word id)
-  adds_id new word id there is = adds_one (record q { objects = set q.objects (object_place word) new }) (with_id word id) adds
+  pub adds_id : (at : ℕ) (x new : Vec ObjectName A) (word : ObjectWord) (id : ObjectName) → at ≡ object_place word → at < length q.objects
+      → x ≡ get_or q.objects at x → new.items ≡ x.items ++ id ∷ [] → held (record q { objects = set q.objects at new }) ≡ with_one (held q) (with_id word id)
+  adds_id at x new word id there within own is = adds_one (record q { objects = set q.objects at new }) (with_id word id) adds
     where
-      adds : Adds (with_id word id) (record q { objects = set q.objects (object_place word) new })
+      adds : Adds (with_id word id) (record q { objects = set q.objects at new })
       adds (of_object of) =
           one_longer (λ (l : Vec ObjectName A). l.items) object_place (λ a b. is_word (of_object a) (of_object b)) with_id list_place same_list
-          q.objects new word of id there is
+          q.objects at x new word of id there within own is
       adds other = refl
 
-  pub adds_text : (new : Texts A) (word : TextWord) (text : List ℕ) → text_place word < length q.texts
-      → texts_of new ≡ texts_at q word ++ text ∷ [] → held (record q { texts = set q.texts (text_place word) new }) ≡ with_one (held q) (with_text word text)
-  adds_text new word text there is = adds_one (record q { texts = set q.texts (text_place word) new }) (with_text word text) adds
+  pub adds_text : (at : ℕ) (x new : Texts A) (word : TextWord) (text : List ℕ) → at ≡ text_place word → at < length q.texts
+      → x ≡ get_or q.texts at x → texts_of new ≡ texts_of x ++ text ∷ [] → held (record q { texts = set q.texts at new }) ≡ with_one (held q) (with_text word text)
+  adds_text at x new word text there within own is = adds_one (record q { texts = set q.texts at new }) (with_text word text) adds
     where
-      adds : Adds (with_text word text) (record q { texts = set q.texts (text_place word) new })
+      adds : Adds (with_text word text) (record q { texts = set q.texts at new })
       adds (of_text of) =
-          one_longer texts_of text_place (λ a b. is_word (of_text a) (of_text b)) with_text pool_place same_pool q.texts new word of text there is
+          one_longer texts_of text_place (λ a b. is_word (of_text a) (of_text b)) with_text pool_place same_pool
+          q.texts at x new word of text there within own is
       adds other = refl
+
+  -- or after none
+  pub same_ids : (at : ℕ) (x new : Vec ObjectName A) → x ≡ get_or q.objects at x → new.items ≡ x.items
+      → held (record q { objects = set q.objects at new }) ≡ held q
+  unfolding held
+  same_ids at x new own is = same_lists (held_at (record q { objects = set q.objects at new })) (held_at q) same words
+    where
+      same : (word : Word) → held_at (record q { objects = set q.objects at new }) word ≡ held_at q word
+      same (of_object of) =
+          ap (λ (ls : List (List ObjectName)). map (with_id of) (get_or ls (object_place of) []))
+          (map-set_same (λ (l : Vec ObjectName A). l.items) q.objects at new x (is ∙ ap (λ (l : Vec ObjectName A). l.items) own))
+      same other = refl
+
+  pub same_texts : (at : ℕ) (x new : Texts A) → x ≡ get_or q.texts at x → texts_of new ≡ texts_of x → held (record q { texts = set q.texts at new }) ≡ held q
+  unfolding held
+  same_texts at x new own is = same_lists (held_at (record q { texts = set q.texts at new })) (held_at q) same words
+    where
+      same : (word : Word) → held_at (record q { texts = set q.texts at new }) word ≡ held_at q word
+      same (of_text of) =
+          ap (λ (ls : List (List (List ℕ))). map (with_text of) (get_or ls (text_place of) []))
+          (map-set_same texts_of q.texts at new x (is ∙ ap texts_of own))
+      same other = refl
 
   given_number : (of word : NumberWord) (is : Bool) (new : ℕ) (old : Option ℕ) → (is ≡ true → of ≡ word)
       → where_given of (if is then Some new else old) ≡ (if is then with_number word new ∷ [] else where_given of old)
   given_number of word true new old same = rw (same refl) refl
   given_number of word false new old same = refl
 
-  pub adds_number : (word : NumberWord) (number : ℕ) → number_place word < length q.numbers
-      → held (record q { numbers = set q.numbers (number_place word) (Some number) }) ≡ with_one (held q) (with_number word number)
-  adds_number word number there = adds_one (record q { numbers = set q.numbers (number_place word) (Some number) }) (with_number word number) adds
+  pub adds_number : (at : ℕ) (word : NumberWord) (number : ℕ) → at ≡ number_place word → at < length q.numbers
+      → held (record q { numbers = set q.numbers at (Some number) }) ≡ with_one (held q) (with_number word number)
+  adds_number at word number there within = adds_one (record q { numbers = set q.numbers at (Some number) }) (with_number word number) adds
     where
-      adds : Adds (with_number word number) (record q { numbers = set q.numbers (number_place word) (Some number) })
+      adds : Adds (with_number word number) (record q { numbers = set q.numbers at (Some number) })
       adds (of_number of) =
-          ap (where_given of) (replaced q.numbers (number_place word) (number_place of) (Some number) None there
-          ∙ ap (λ (b : Bool). if b then Some number else number_at q of) (own_place of word))
+          ap (where_given of) (replaced q.numbers at (number_place of) (Some number) None within
+          ∙ ap (λ (b : Bool). if b then Some number else number_at q of) (ap (λ (n : ℕ). number_place of == n) there ∙ own_place of word))
           ∙ given_number of word (is_word (of_number of) (of_number word)) number (number_at q of) (same_own of word)
       adds other = refl
 
-  -- the lists where the texts of one word are others
-  pub elsewhere : (new : Texts A) (word : TextWord) → text_place word < length q.texts → (of : Word) → is_word of (of_text word) ≡ false
-      → held_at (record q { texts = set q.texts (text_place word) new }) of ≡ held_at q of
-  elsewhere new word there (of_text of) other =
-      ap (map (with_text of))
-      (rw (map-set texts_of q.texts (text_place word) new)
-      (replaced (map texts_of q.texts) (text_place word) (text_place of) (texts_of new) [] (omega (arith, there, length-map q.texts texts_of)))
-      ∙ ap (λ (b : Bool). if b then texts_of new else texts_at q of) (pool_place of word ∙ other))
-  elsewhere new word there of other = refl
+  -- where the texts of one word are others
+  pub elsewhere : (at : ℕ) (new : Texts A) (word : TextWord) → at ≡ text_place word → at < length q.texts → (of : Word) → is_word of (of_text word) ≡ false
+      → held_at (record q { texts = set q.texts at new }) of ≡ held_at q of
+  elsewhere at new word there within (of_text of) other =
+      let now = replaced (map texts_of q.texts) at (text_place of) (texts_of new) [] (omega (arith, within, length-map q.texts texts_of)) in
+      let test : (text_place of == at) ≡ false = ap (λ (n : ℕ). text_place of == n) there ∙ pool_place of word ∙ other in
+      ap (λ (l : List (List (List ℕ))). map (with_text of) (get_or l (text_place of) [])) (map-set texts_of q.texts at new)
+      ∙ ap (map (with_text of)) (now ∙ ap (λ (b : Bool). if b then texts_of new else texts_at q of) test)
+  elsewhere at new word there within of other = refl
 
   -- nothing is held in empty lists
   none_at : ((place : ℕ) → get_or q.flags.set place false ≡ false) → ((word : ObjectWord) → ids_at q word ≡ [])
@@ -228,9 +260,14 @@ module _ {A : Type 0} (q : ArgumentLists A) where
 
   pub none_held : ((place : ℕ) → get_or q.flags.set place false ≡ false) → ((word : ObjectWord) → ids_at q word ≡ [])
       → ((word : TextWord) → texts_at q word ≡ []) → ((word : NumberWord) → number_at q word ≡ None) → held q ≡ []
+  unfolding held
   none_held flags objects texts numbers = same_lists (held_at q) (λ word. []) (none_at flags objects texts numbers) words
 
   -- the arguments from a word on
   pub from_word : (order : List Word) (i : ℕ) (d : Word) → i < length order
       → flat_map (held_at q) (drop i order) ≡ held_at q (get_or order i d) ++ flat_map (held_at q) (drop (i + 1) order)
   from_word order i d within = rw (add-one, drop-cons order i d within) refl
+
+  pub held_is : held q ≡ flat_map (held_at q) words
+  unfolding held
+  held_is = refl

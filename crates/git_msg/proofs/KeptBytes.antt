@@ -1,9 +1,10 @@
 -- The bytes stored of a request are counted with each further argument, and what follows for its arguments in their order.
-use Rattle.std.proofs.Common.{arith, ◌≡◌, ℕ, ◌+◌, ◌<◌, ◌≤◌, ◌^◌, Option, Some, None, List, [], ◌∷◌, ◌++◌, ap, sym, subst, rules}
+use Rattle.std.proofs.Common.{arith, refl, Bool, true, false, Bor, if◌then◌else◌, ◌≡◌, ℕ, ◌+◌, ◌<◌, ◌≤◌, ◌^◌, Option, Some, None, List, [], ◌∷◌, ◌++◌, ap, sym, subst, rules}
 use Rattle.std.proofs.Common.{length, option_map, length-append}
 use Rattle.std.specs.Prelude.{All, IfSome, OnSome, slice_get}
+use Rattle.std.specs.Option.{option_copied}
 use Rattle.std.proofs.Math.Seq.{take-append_seam, drop-append_seam}
-use Rattle.std.proofs.lemmas.List.Elements.{All-push, All-take, All-drop}
+use Rattle.std.proofs.lemmas.List.Elements.{All-push, All-take, All-drop, All-weaker}
 use Rattle.std.proofs.lemmas.List.Sums.{sum_by-cons}
 use Rattle.std.proofs.lemmas.Option.{slice_get_within, get_or_from_slice_get}
 use Rattle.git_names.specs.declared.object_format.Format.{Format}
@@ -20,8 +21,10 @@ use Rattle.git_msg.specs.declared.words.NumberWord.{NumberWord}
 use Rattle.git_names.specs.ObjectName.{hex_of}
 use Rattle.git_msg.specs.Arguments.{Arg, alone, with_id, with_text, with_number, row, word_of, command_with, shown}
 use Rattle.git_msg.specs.Arguments.{IsInRange, IsNumberOf, IsTextOf, IsValue, stored_in, written_text, written_value}
-use Rattle.git_msg.specs.Asked.{Asked, AreInOrder, HasValues, arguments_in, bytes_of, command_asked, with_one, written}
+use Rattle.git_msg.specs.Asked.{Asked, AreInOrder, HasValues, arguments_in, bytes_of, command_asked, is_word, text_in, texts, with_one, written}
 use Rattle.git_msg.specs.Kept.{Kept, AreOf, IsSound, KeepsOne}
+use Rattle.git_msg.proofs.FoundParts.{All-filter_map}
+use Rattle.git_msg.proofs.HeadWords.{same_word}
 use Rattle.git_msg.proofs.WrittenArguments.{all_written, written_again, writes_no_more}
 use Rattle.git_msg.proofs.WrittenNames.{hex_of-at_least, hex_of-at_most}
 
@@ -134,6 +137,22 @@ pub line_fits : (q : Kept (List Arg)) (i : ℕ) (result : Option Argument) → I
 line_fits q i None h same = tt
 line_fits q i (Some argument) h same =
     value_fits q.format (shown argument) (all_at (IsInRange q.format) q.asked i (shown argument) h.ranges (sym same))
+
+-- a text after a word is allowed there
+found_fits : (format : Format) (word : TextWord) (arg : Arg) → IsInRange format arg → IfSome (text_in word arg) (IsTextOf word)
+found_fits format word (with_text of text) fits = by_word (is_word (of_text word) (of_text of)) refl
+  where
+    by_word : (is : Bool) → is_word (of_text word) (of_text of) ≡ is → IfSome (if is then Some text else None) (IsTextOf word)
+    by_word true e = let same = same_word (of_text word) (of_text of) e in let words : of ≡ word = cc in subst (λ (t : TextWord). IsTextOf t text) words fits
+    by_word false e = tt
+found_fits format word arg fits = tt
+
+pub text_fits : (q : Kept (List Arg)) (word : TextWord) (i : ℕ) (found : Option (Bor (List ℕ))) → IsSound q
+    → option_copied found ≡ slice_get (texts word q.asked) i → IfSome found (λ text. IsInRange q.format (with_text word text.now))
+text_fits q word i None h same = tt
+text_fits q word i (Some text) h same =
+    all_at (IsTextOf word) (texts word q.asked) i text.now (All-filter_map (IsTextOf word) (text_in word) q.asked
+    (All-weaker (IsInRange q.format) (λ arg. IfSome (text_in word arg) (IsTextOf word)) (found_fits q.format word) q.asked h.ranges)) (sym same)
 
 pub all_front : {X : Type 0} (P : X → Type 0) (xs ys : List X) → All P (xs ++ ys) → All P xs
 all_front P xs ys h = subst (All P) (take-append_seam xs ys) (All-take P (length xs) (xs ++ ys) h)

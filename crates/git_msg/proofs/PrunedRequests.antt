@@ -98,6 +98,7 @@ module _ {A : Type 0} where
   back_of q = flat_map (held_at q) (drop 4 words)
 
   parted : (q : ArgumentLists A) → held q ≡ front_of q ++ (map (with_text TextWord.RefPrefix) (texts_at q TextWord.RefPrefix) ++ back_of q)
+  unfolding held
   parted q = flat_map-append (held_at q) (take 3 words) (drop 3 words)
 
   -- the lists with other prefixes

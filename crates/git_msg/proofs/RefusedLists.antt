@@ -6,7 +6,7 @@ use Rattle.git_msg.specs.Kept.{IsSound, Kept}
 use Rattle.git_msg.specs.Memory.{HasRefused}
 use Rattle.git_msg.proofs.KeptBytes.{stored_fits}
 
-refused_within : (refuses : ℕ → Type 0) (least most : ℕ) → least ≤ most → HasRefused refuses least → HasRefused refuses most
+pub refused_within : (refuses : ℕ → Type 0) (least most : ℕ) → least ≤ most → HasRefused refuses least → HasRefused refuses most
 refused_within refuses least most fits h =
     ∥∥₁_elim h ∥∥₁_prop (λ (r : (bytes : ℕ) × refuses bytes × (bytes ≤ least)). let (bytes, is, within) = r in ∣ (bytes, is, omega (arith, within, fits)) ∣₁)
 

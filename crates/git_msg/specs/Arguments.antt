@@ -109,10 +109,14 @@ abbrev pub IsNumberOf : NumberWord → ℕ → Type 0
 IsNumberOf NumberWord.Deepen depth = (1 ≤ depth) × (depth ≤ 2147483647)
 IsNumberOf NumberWord.DeepenSince time = time ≤ 9223372036854775807
 
--- such a number in decimal digits
-pub record IsNumberIn (word : NumberWord) (digits : List ℕ) (number : ℕ) : Type 0 where
-  pub is_number : IsNumber digits number
-  pub in_range : IsNumberOf word number
+-- a number in the range, in decimal digits
+pub record IsNumberIn (InRange : ℕ → Type 0) (text : List ℕ) (number : ℕ) : Type 0 where
+  pub is_number : IsNumber text number
+  pub in_range : InRange number
+
+-- there is no such number
+abbrev pub IsNoNumberIn : (ℕ → Type 0) → List ℕ → Type 0
+IsNoNumberIn InRange text = (number : ℕ) → ¬ IsNumberIn InRange text number
 
 -- an object name of the format
 pub record IsNameIn (format : Format) (id : ObjectName) : Type 0 where
@@ -129,7 +133,7 @@ abbrev pub StatesValue : Format → List ℕ → Arg → Type 0
 StatesValue format value (alone flag) = Unit {0}
 StatesValue format value (with_id word id) = IsObjectName format value id
 StatesValue format value (with_text word text) = (value ≡ text) × IsTextOf word text
-StatesValue format value (with_number word number) = IsNumberIn word value number
+StatesValue format value (with_number word number) = IsNumberIn (IsNumberOf word) value number
 
 -- the text contains this argument, and its value is allowed there
 pub record HasArgument (format : Format) (text : List ℕ) (arg : Arg) : Type 0 where
@@ -187,7 +191,7 @@ abbrev pub IsNoValue : Word → Format → List ℕ → Type 0
 IsNoValue (of_flag flag) format value = ⊥
 IsNoValue (of_object word) format name = IsNoObjectName format name
 IsNoValue (of_text word) format text = IsNoTextOf word text
-IsNoValue (of_number word) format digits = (number : ℕ) → ¬ IsNumberIn word digits number
+IsNoValue (of_number word) format digits = IsNoNumberIn (IsNumberOf word) digits
 
 -- a text that begins with a word of the command is refused for its value, with this error
 pub record IsRowFault (command : Command) (format : Format) (text : List ℕ) (kind : Kind) : Type 0 where

@@ -158,7 +158,7 @@ fn read_id(format: Format, name: &[u8], steps: &mut Steps) -> Result<Oid, Kind>
 }
 
 /// The word at the head of the argument's line.
-pub(crate) fn word_at(argument: &Argument<'_>) -> Word
+pub fn word_at(argument: &Argument<'_>) -> Word
     ensures { result ≡ word_of (shown argument.now) }
 {
     match argument {

@@ -33,7 +33,7 @@ mod writer;
 mod writing;
 
 pub use crate::admits::{Admits, AdmitsAll};
-pub use crate::arguments::{Argument, Command, read_argument};
+pub use crate::arguments::{Argument, Command, read_argument, word_at};
 pub use crate::capabilities::{AGENT_LINE, Capability, read_capability};
 pub use crate::fetch::Fetch;
 pub use crate::flags::Flag;

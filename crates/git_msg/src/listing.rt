@@ -3,6 +3,7 @@ ghost use Rattle.std.specs.Prelude.{◌≡◌, false, slice_get};
 ghost use Rattle.std.specs.Option.{option_copied};
 
 use crate::flags::Flag;
+use crate::kept::KeptArguments;
 use crate::ls_refs::LsRefs;
 use std::alloc::Allocator;
 use std::marker::Model;
@@ -43,6 +44,13 @@ impl<A: Allocator + Copy> Listing<A> {
             request,
             is_ordered: false,
         }
+    }
+
+    /// Its arguments.
+    pub fn arguments(&self) -> &KeptArguments<A>
+        ensures { result.now.asked ≡ self.now.asked }
+    {
+        self.request.arguments()
     }
 
     /// Sorts the prefixes in place, and drops those that begin with another one: the same names begin with one of the rest.

@@ -2,7 +2,7 @@
 ghost use Rattle.std.specs.Prelude.{◌≡◌, ◌≢◌, ◌+◌, ◌*◌, ◌<◌, ◌≤◌, ℕ, List, MatchBool, MatchOption, MatchResult, length};
 ghost use Rattle.git_names.specs.Steps.{TakesAtMost};
 ghost use Rattle.git_pkt.specs.declared.fault.Kind.{Kind};
-ghost use Rattle.git_msg.specs.Arguments.{IsNoArgument, IsNoTextOf, IsNumberIn, IsNumberOf, IsTextOf, line_of, refusal_of, row, words_of};
+ghost use Rattle.git_msg.specs.Arguments.{IsNoArgument, IsNoNumberIn, IsNoTextOf, IsNumberIn, IsNumberOf, IsTextOf, line_of, refusal_of, row, words_of};
 ghost use Rattle.git_msg.specs.Machine.ArgumentLists.{number_place, object_place, text_place};
 
 use crate::arguments::Command;
@@ -253,8 +253,8 @@ impl NumberWord {
 
     /// Reads a number after the word.
     pub(crate) fn read(self, digits: &[u8], steps: &mut Steps) -> Result<u64, Kind>
-        ensures number { MatchResult result (IsNumberIn self digits.now)
-            (λ kind. ((number : ℕ) → ¬ IsNumberIn self digits.now number) × (kind ≡ Kind.BadNumber)) }
+        ensures number { MatchResult result (IsNumberIn (IsNumberOf self) digits.now)
+            (λ kind. IsNoNumberIn (IsNumberOf self) digits.now × (kind ≡ Kind.BadNumber)) }
         ensures cost { TakesAtMost (length digits.now) steps.old steps.new }
     {
         steps.tick(digits.len());

@@ -4,7 +4,8 @@ use Rattle.git_msg.specs.Advertisement.{everything}
 use Rattle.git_msg.specs.Arguments.{Arg, with_id, with_text}
 use Rattle.git_msg.specs.Asked.{where_asked}
 use Rattle.git_msg.specs.declared.flags.Flag.{Flag}
-use Rattle.git_msg.specs.declared.words.Word.TheVariants.{RefPrefix as ref_prefix, Want as want, Have as have}
+use Rattle.git_msg.specs.declared.words.ObjectWord.{ObjectWord}
+use Rattle.git_msg.specs.declared.words.TextWord.{TextWord}
 use Rattle.git_msg.specs.WrittenRequest.{text_line}
 use Rattle.git_msg.specs.declared.offers.Offer.{Offer}
 use Rattle.git_msg.specs.declared.response_lines.Info.{Info}
@@ -63,11 +64,11 @@ info_of id size = record { id = id; size = size }
 
 -- what a request for references without flags asks for, with these prefixes
 abbrev pub ls_refs_of : List (List ℕ) → List Arg
-ls_refs_of prefixes = map (with_text ref_prefix) prefixes
+ls_refs_of prefixes = map (with_text TextWord.RefPrefix) prefixes
 
 -- what a fetch asks for, with these `want` lines, perhaps `done`, and no other line
 abbrev pub fetch_of : List ObjectName → Bool → List Arg
-fetch_of wants is_done = map (with_id want) wants ++ where_asked is_done Flag.Done
+fetch_of wants is_done = map (with_id ObjectWord.Want) wants ++ where_asked is_done Flag.Done
 
 -- a request for references, from the offset 0 on
 abbrev pub ls_refs_packets : List Given
@@ -93,8 +94,8 @@ three_argument_packets =
 
 -- a request for references with these flags and prefixes
 abbrev pub asked_with : (symrefs peel : Bool) → List (List ℕ) → List Arg
-asked_with symrefs peel prefixes = where_asked peel Flag.Peel ++ (where_asked symrefs Flag.Symrefs ++ map (with_text ref_prefix) prefixes)
+asked_with symrefs peel prefixes = where_asked peel Flag.Peel ++ (where_asked symrefs Flag.Symrefs ++ map (with_text TextWord.RefPrefix) prefixes)
 
 -- a fetch that negotiates, with these `have` lines
 abbrev pub haves_of : List ObjectName → List Arg
-haves_of haves = with_id want name_a ∷ map (with_id have) haves
+haves_of haves = with_id ObjectWord.Want name_a ∷ map (with_id ObjectWord.Have) haves

@@ -2,7 +2,6 @@
 
 ghost use Rattle.std.specs.Prelude.{◌++◌, ◌∷◌, [], codes, false, true};
 ghost use Rattle.git_msg.specs.Arguments.{alone, with_id};
-ghost use Rattle.git_msg.specs.declared.words.Word.TheVariants.{Flag as of_flag, Want as want};
 ghost use Rattle.git_msg.specs.Asked.{fetch, ls_refs};
 ghost use Rattle.git_msg.specs.Lines.{HasFault, IsLine, argument, command, delimiter};
 ghost use Rattle.git_msg.specs.Requests.{Asks, FirstFault, IsStop, WantsMemory};

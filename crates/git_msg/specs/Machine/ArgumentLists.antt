@@ -66,7 +66,7 @@ module _ {A : Type 0} where
   held_at q (of_number word) = where_given word (number_at q word)
 
   -- all arguments
-  abbrev pub held : ArgumentLists A → List Arg
+  unfoldable pub held : ArgumentLists A → List Arg
   held q = flat_map (held_at q) words
 
   -- how many bytes are stored

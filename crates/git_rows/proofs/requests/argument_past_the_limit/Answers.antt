@@ -2,7 +2,7 @@ use Rattle.std.proofs.Common.{◌≡◌, [], ◌∷◌, codes, refl, arith, inl,
 use Rattle.git_pkt.specs.Packets.{delim}
 use Rattle.git_pkt.specs.declared.fault.Kind.TheVariants.{TooMuchKept}
 use Rattle.git_msg.specs.Arguments.{ReadsAs, alone, with_text}
-use Rattle.git_msg.specs.declared.words.Word.TheVariants.{Flag as of_flag, RefPrefix as ref_prefix}
+use Rattle.git_msg.specs.declared.words.TextWord.{TextWord}
 use Rattle.git_msg.specs.Lines.{argument, command, delimiter}
 use Rattle.git_msg.specs.Requests.{FirstFault}
 use Rattle.git_msg.specs.WrittenRequest.{text_line}
@@ -14,8 +14,8 @@ use Rattle.git_rows.proofs.RequestLines.{ls_refs_command}
 use Rattle.git_rows.proofs.TextsByComputing.{no_error_by}
 use Rattle.git_rows.proofs.requests.argument_past_the_limit.Goals as goal
 
-symrefs_reads : ReadsAs LsRefs offer_all (codes "symrefs") (alone (of_flag Flag.Symrefs))
-symrefs_reads = record { is_argument = (refl, refl); offered = refl }
+symrefs_reads : ReadsAs LsRefs offer_all (codes "symrefs") (alone Flag.Symrefs)
+symrefs_reads = record { is_argument = (refl, record { value = []; spelled = refl; states = tt }); offered = refl }
 
 refused : FirstFault offer_all 26 three_argument_packets TooMuchKept 60
 refused = record {
@@ -25,7 +25,7 @@ refused = record {
   at = at 60 (text_line (codes "symrefs"));
   back = [];
   items =
-      command LsRefs ∷ delimiter ∷ argument (alone (of_flag Flag.Peel)) 4 ∷ argument (with_text ref_prefix (codes "refs/heads/")) 22 ∷ [];
+      command LsRefs ∷ delimiter ∷ argument (alone Flag.Peel) 4 ∷ argument (with_text TextWord.RefPrefix (codes "refs/heads/")) 22 ∷ [];
   whole = refl;
   taken = (
     ls_refs_command 26,
@@ -37,7 +37,7 @@ refused = record {
             no_error = no_error_by (codes "peel") refl;
             of = LsRefs;
             asked = refl;
-            reads = record { is_argument = (refl, refl); offered = refl };
+            reads = record { is_argument = (refl, record { value = []; spelled = refl; states = tt }); offered = refl };
           };
           long_is = refl;
           fits = omega arith;
@@ -48,7 +48,7 @@ refused = record {
               no_error = no_error_by (codes "ref-prefix refs/heads/") refl;
               of = LsRefs;
               asked = refl;
-              reads = record { is_argument = (refl, (refl, omega arith)); offered = refl };
+              reads = record { is_argument = (refl, record { value = _; spelled = refl; states = (refl, (omega arith, omega arith)) }); offered = refl };
             };
             long_is = refl;
             fits = omega arith;
@@ -62,7 +62,7 @@ refused = record {
     fault = record {
       of = LsRefs;
       asked = refl;
-      refuses = inr (no_error_by (codes "symrefs") refl, inr ((alone (of_flag Flag.Symrefs), symrefs_reads), inl (omega arith, refl)));
+      refuses = inr (no_error_by (codes "symrefs") refl, inr ((alone Flag.Symrefs, symrefs_reads), inl (omega arith, refl)));
     };
     offset_is = refl;
   };

@@ -2,7 +2,6 @@ use Rattle.std.proofs.Common.{◌≡◌, [], ◌∷◌, true, false, codes, refl
 use Rattle.git_pkt.specs.Packets.{flush}
 use Rattle.git_pkt.specs.declared.fault.Kind.TheVariants.{TooMuchKept}
 use Rattle.git_msg.specs.Arguments.{alone}
-use Rattle.git_msg.specs.declared.words.Word.TheVariants.{Flag as of_flag}
 use Rattle.git_msg.specs.Asked.{has_flag}
 use Rattle.git_msg.specs.Requests.{FirstFault}
 use Rattle.git_msg.specs.WrittenRequest.{text_line}
@@ -28,7 +27,7 @@ past_the_limit = record {
     fault = record {
       of = Fetch;
       asked = refl;
-      refuses = inr (no_error_by (codes "done") refl, inr ((alone (of_flag Flag.Done), done_reads), inl (omega arith, refl)));
+      refuses = inr (no_error_by (codes "done") refl, inr ((alone Flag.Done, done_reads), inl (omega arith, refl)));
     };
     offset_is = refl;
   };

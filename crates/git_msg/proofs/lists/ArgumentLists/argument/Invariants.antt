@@ -6,4 +6,4 @@ use Rattle.git_msg.proofs.lists.ArgumentLists.argument.Given as goal
 
 -- the argument is the one at this index of those of the words left
 abbrev pub invariant-loop-word : goal.invariant-loop-word
-invariant-loop-word l = slice_get (held l.self) l.fn.i ≡ slice_get (flat_map (held_at l.self) (drop l.word-index l.word-items)) l.left
+invariant-loop-word g l = slice_get (held l.self) l.fn.i ≡ slice_get (flat_map (held_at l.self) (drop l.word-index l.word-items)) l.left

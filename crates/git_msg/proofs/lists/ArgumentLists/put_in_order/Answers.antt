@@ -1,6 +1,16 @@
 use Rattle.std.proofs.Common.{rules}
 use Rattle.git_msg.proofs.HeldArguments.{elsewhere}
+use Rattle.git_msg.proofs.StoredLists.{stores_texts}
 use Rattle.git_msg.proofs.lists.ArgumentLists.put_in_order.Goals as goal
 
 pub returns-clause-others : goal.returns-clause-others
 returns-clause-others g c = search (rules, elsewhere)
+
+pub returns-clause-stored : goal.returns-clause-stored
+returns-clause-stored g c = search (rules, stores_texts)
+
+pub returns-clause-ordered : goal.returns-clause-ordered
+returns-clause-ordered g c = ?
+
+pub returns-clause-alike : goal.returns-clause-alike
+returns-clause-alike g c = ?

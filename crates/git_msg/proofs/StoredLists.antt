@@ -1,0 +1,52 @@
+-- How many bytes are stored of arguments, where one list is replaced by another.
+use Rattle.std.proofs.Common.{arith, ◌≡◌, ℕ, ◌+◌, ◌*◌, ◌<◌, ◌≤◌, List, ◌∷◌, ◌++◌, [], ap, get_or, length, length-append}
+use Rattle.std.specs.Prelude.{Vec, set, sum_by}
+use Rattle.std.proofs.lemmas.List.Sums.{get_or-le-sum_by, sum_by-set}
+use Rattle.git_names.specs.ObjectName.{ObjectName}
+use Rattle.git_msg.specs.declared.lists.ArgumentLists.{ArgumentLists}
+use Rattle.git_msg.specs.declared.parts.Texts.{Texts}
+use Rattle.git_msg.specs.Machine.ArgumentLists.{stored}
+use Rattle.git_msg.specs.Machine.HeldTexts.{texts_stored}
+use Rattle.git_msg.specs.Memory.{HasRefused}
+use Rattle.git_msg.proofs.RefusedLists.{refused_within}
+
+sum_with : {X : Type 0} (f : X → ℕ) (xs : List X) (at : ℕ) (x new : X) → at < length xs → x ≡ get_or xs at x
+    → sum_by f (set xs at new) + f x ≡ sum_by f xs + f new
+sum_with f xs at x new within own = omega (arith, sum_by-set f xs at new x within, ap f own)
+
+sum_above : {X : Type 0} (f : X → ℕ) (xs : List X) (at : ℕ) (x : X) → at < length xs → x ≡ get_or xs at x → f x ≤ sum_by f xs
+sum_above f xs at x within own = omega (arith, get_or-le-sum_by f xs at x within, ap f own)
+
+module _ {A : Type 0} (q : ArgumentLists A) where
+  -- an object name more
+  pub stores_id : (at : ℕ) (x new : Vec ObjectName A) (id : ObjectName) → at < length q.objects → x ≡ get_or q.objects at x
+      → new.items ≡ x.items ++ id ∷ [] → stored (record q { objects = set q.objects at new }) ≡ stored q + 33
+  stores_id at x new id within own is =
+      omega (arith, sum_with (λ (l : Vec ObjectName A). length l.items) q.objects at x new within own, ap length is, length-append x.items (id ∷ []))
+
+  -- the same object names
+  pub stores_ids : (at : ℕ) (x new : Vec ObjectName A) → at < length q.objects → x ≡ get_or q.objects at x
+      → new.items ≡ x.items → stored (record q { objects = set q.objects at new }) ≡ stored q
+  stores_ids at x new within own is = omega (arith, sum_with (λ (l : Vec ObjectName A). length l.items) q.objects at x new within own, ap length is)
+
+  -- texts with so many bytes more
+  pub stores_text : (at : ℕ) (x new : Texts A) (more : ℕ) → at < length q.texts → x ≡ get_or q.texts at x
+      → texts_stored new ≡ texts_stored x + more → stored (record q { texts = set q.texts at new }) ≡ stored q + more
+  stores_text at x new more within own is = omega (arith, sum_with texts_stored q.texts at x new within own, is)
+
+  -- or with no more
+  pub stores_texts : (at : ℕ) (x new : Texts A) → at < length q.texts → x ≡ get_or q.texts at x
+      → texts_stored new ≤ texts_stored x → stored (record q { texts = set q.texts at new }) ≤ stored q
+  stores_texts at x new within own is = omega (arith, sum_with texts_stored q.texts at x new within own, is)
+
+  -- a refused list was to have no more bytes than all lists together
+  pub refused_id : (refuses : ℕ → Type 0) (at : ℕ) (x : Vec ObjectName A) → at < length q.objects → x ≡ get_or q.objects at x
+      → HasRefused refuses (33 * (length x.items + 1)) → HasRefused refuses (stored q + 33)
+  refused_id refuses at x within own h =
+      refused_within refuses (33 * (length x.items + 1)) (stored q + 33)
+      (omega (arith, sum_above (λ (l : Vec ObjectName A). length l.items) q.objects at x within own)) h
+
+  pub refused_text : (refuses : ℕ → Type 0) (at : ℕ) (x : Texts A) (more : ℕ) → at < length q.texts → x ≡ get_or q.texts at x
+      → HasRefused refuses (texts_stored x + more) → HasRefused refuses (stored q + more)
+  refused_text refuses at x more within own h =
+      refused_within refuses (texts_stored x + more) (stored q + more) (omega (arith, sum_above texts_stored q.texts at x within own)) h
