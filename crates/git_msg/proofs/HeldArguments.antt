@@ -1,13 +1,14 @@
 -- The lists that are stored of a request are its arguments in their order, and looking up in these finds what is stored.
-use Rattle.std.proofs.Common.{arith, ◌≡◌, ℕ, ◌+◌, ◌<◌, ◌==◌, ◌||◌, Bool, true, false, Option, Some, None, List, [], ◌∷◌, ◌++◌, map, refl, sym}
+use Rattle.std.proofs.Common.{arith, ◌≡◌, ℕ, ◌+◌, ◌<◌, ◌≤◌, subst, ◌==◌, ◌||◌, Bool, true, false, Option, Some, None, List, [], ◌∷◌, ◌++◌, map, refl, sym}
 use Rattle.std.proofs.Common.{ap, inl, inr, ◌∙◌, add-one, drop, drop-cons, get_or, length, if◌then◌else◌}
-use Rattle.std.specs.Prelude.{All, Vec, set}
+use Rattle.std.specs.Prelude.{All, Vec, set, sum_by}
 use Rattle.std.specs.List.{filter_map, flat_map}
 use Rattle.std.proofs.lemmas.Bool.{cases_eq}
 use Rattle.std.proofs.lemmas.Grind.{common_steps, get_or-set_at}
 use Rattle.std.proofs.Math.Seq.{map-set_same}
 use Rattle.std.proofs.lemmas.List.{map-append, map-set, length-map, get_or-map, get_or-set_other}
-use Rattle.std.proofs.lemmas.List.Elements.{All-nil, All-cons, All-map}
+use Rattle.std.proofs.lemmas.List.Elements.{All-nil, All-cons, All-filter, All-map}
+use Rattle.std.proofs.lemmas.List.Sums.{sum_by-append}
 use Rattle.git_names.specs.ObjectName.{ObjectName}
 use Rattle.git_msg.specs.declared.flags.Flag.{Flag}
 use Rattle.git_msg.specs.declared.flags.FlagSet.{FlagSet}
@@ -25,7 +26,7 @@ use Rattle.git_msg.specs.Machine.ArgumentLists.{held, held_at, ids_at, is_held, 
 use Rattle.git_msg.specs.Machine.HeldTexts.{texts_of}
 use Rattle.git_msg.specs.Texts.{last_of}
 use Rattle.git_msg.proofs.HeadWords.{itself, same_word}
-use Rattle.git_msg.proofs.WrittenArguments.{added, any_of, by_value, found, in_order, is_some, same_lists, with_one_more}
+use Rattle.git_msg.proofs.WrittenArguments.{added, all_flat, any_of, by_value, found, in_order, is_some, same_lists, with_one_more}
 
 -- words are the same just where their places are
 flag_place : (a b : Flag) → (place_of a == place_of b) ≡ is_word (of_flag a) (of_flag b)
@@ -271,3 +272,29 @@ module _ {A : Type 0} (q : ArgumentLists A) where
   pub held_is : held q ≡ flat_map (held_at q) words
   unfolding held
   held_is = refl
+
+  -- what holds of all arguments holds of those of each word
+  pub all_of_word : (P : Arg → Type 0) → All P (held q) → (word : Word) → All P (held_at q word)
+  unfolding held
+  all_of_word P all word = subst (All P) (found (held_at q) held_own word) (All-filter (is_of word) P (flat_map (held_at q) words) all)
+
+  pub all_held : (P : Arg → Type 0) → ((word : Word) → All P (held_at q word)) → All P (held q)
+  unfolding held
+  all_held P each = all_flat P (held_at q) each words
+
+-- and if no word's arguments count for more, all do not
+pub fewer_held : {A : Type 0} (q new : ArgumentLists A) (f : Arg → ℕ) → ((word : Word) → sum_by f (held_at new word) ≤ sum_by f (held_at q word))
+    → sum_by f (held new) ≤ sum_by f (held q)
+unfolding held
+fewer_held q new f less = by_words words
+  where
+    by_words : (order : List Word) → sum_by f (flat_map (held_at new) order) ≤ sum_by f (flat_map (held_at q) order)
+    by_words [] = omega arith
+    by_words (word ∷ order) =
+        omega (
+          arith,
+          less word,
+          by_words order,
+          sum_by-append f (held_at new word) (flat_map (held_at new) order),
+          sum_by-append f (held_at q word) (flat_map (held_at q) order),
+        )

@@ -3,8 +3,7 @@ use Rattle.std.proofs.Common.{arith, refl, Bool, true, false, Bor, if◌then◌e
 use Rattle.std.proofs.Common.{length, option_map, length-append}
 use Rattle.std.specs.Prelude.{All, IfSome, OnSome, slice_get}
 use Rattle.std.specs.Option.{option_copied}
-use Rattle.std.proofs.Math.Seq.{take-append_seam, drop-append_seam}
-use Rattle.std.proofs.lemmas.List.Elements.{All-push, All-take, All-drop, All-weaker}
+use Rattle.std.proofs.lemmas.List.Elements.{All-push, All-weaker}
 use Rattle.std.proofs.lemmas.List.Sums.{sum_by-cons}
 use Rattle.std.proofs.lemmas.Option.{slice_get_within, get_or_from_slice_get}
 use Rattle.git_names.specs.declared.object_format.Format.{Format}
@@ -153,9 +152,3 @@ text_fits q word i None h same = tt
 text_fits q word i (Some text) h same =
     all_at (IsTextOf word) (texts word q.asked) i text.now (All-filter_map (IsTextOf word) (text_in word) q.asked
     (All-weaker (IsInRange q.format) (λ arg. IfSome (text_in word arg) (IsTextOf word)) (found_fits q.format word) q.asked h.ranges)) (sym same)
-
-pub all_front : {X : Type 0} (P : X → Type 0) (xs ys : List X) → All P (xs ++ ys) → All P xs
-all_front P xs ys h = subst (All P) (take-append_seam xs ys) (All-take P (length xs) (xs ++ ys) h)
-
-pub all_back : {X : Type 0} (P : X → Type 0) (xs ys : List X) → All P (xs ++ ys) → All P ys
-all_back P xs ys h = subst (All P) (drop-append_seam xs ys) (All-drop P (length xs) (xs ++ ys) h)

@@ -47,7 +47,7 @@ one_more word args arg =
     ∙ added_by (is_of word arg) (last_counts word) (of_word word args) arg
 
 -- the word is none of these
-abbrev pub never : Word → List Word → Bool
+abbrev never : Word → List Word → Bool
 never word [] = true
 never word (first ∷ order) = not (is_word first word) && never word order
 
@@ -123,7 +123,7 @@ unchanged_at : (f g : Word → List Arg) (word first : Word) (order : List Word)
 unchanged_at f g word first order true is same h later = absurd (cc)
 unchanged_at f g word first order false is same h later = rw (same refl, later h) refl
 
-pub unchanged : (f g : Word → List Arg) (word : Word) → ((other : Word) → is_word other word ≡ false → f other ≡ g other)
+unchanged : (f g : Word → List Arg) (word : Word) → ((other : Word) → is_word other word ≡ false → f other ≡ g other)
     → (order : List Word) → never word order ≡ true → flat_map f order ≡ flat_map g order
 unchanged f g word same [] h = refl
 unchanged f g word same (first ∷ order) h =
@@ -182,14 +182,14 @@ module _ (args : List Arg) where
       with_one_more (λ word. counting word args) counted_own counted_twice (λ word. counting word (args ++ arg ∷ [])) arg (λ word. one_more word args arg)
 
 -- what holds of each argument holds of each that is written
+pub all_flat : (P : Arg → Type 0) (f : Word → List Arg) → ((word : Word) → All P (f word)) → (order : List Word) → All P (flat_map f order)
+all_flat P f each [] = All-nil P
+all_flat P f each (word ∷ order) = All-append P (f word) (flat_map f order) (each word) (all_flat P f each order)
+
 pub all_written : (P : Arg → Type 0) (args : List Arg) → All P args → All P (written args)
-all_written P args h = in_all words
-  where
-    in_all : (order : List Word) → All P (flat_map (λ word. counting word args) order)
-    in_all [] = All-nil P
-    in_all (word ∷ order) =
-        All-append P (counting word args) (flat_map (λ w. counting w args) order)
-        (all_kept P (last_counts word) (of_word word args) (All-filter (is_of word) P args h)) (in_all order)
+all_written P args h =
+    all_flat P (λ word. counting word args)
+    (λ word. all_kept P (last_counts word) (of_word word args) (All-filter (is_of word) P args h)) words
 
 -- ---- what one argument more writes
 

@@ -1,5 +1,5 @@
 //! Requests as they are kept.
-ghost use Rattle.std.specs.Prelude.{◌≡◌, ◌+◌, ◌≤◌, length, OnOk, OnErr, IfErr, MatchResult};
+ghost use Rattle.std.specs.Prelude.{◌≡◌, ◌+◌, ◌≤◌, decimal, length, OnOk, OnErr, IfErr, MatchResult};
 ghost use Rattle.git_msg.specs.Arguments.{shown, written_text};
 
 use crate::arguments::{Argument, Command, check_value, put_together, word_at};
@@ -208,6 +208,14 @@ fn written_length(argument: &Argument<'_>) -> usize
         Argument::Flag(_) => word,
         Argument::Object(_, id) => word + id.format().digits(),
         Argument::Text(_, text) => word + text.len(),
-        Argument::Number(_, number) => word + decimal_length(*number),
+        Argument::Number(_, number) => number_length(word, *number),
     }
+}
+
+// The length of a word of so many bytes and a number.
+fn number_length(word: usize, number: u64) -> usize
+    requires { word ≤ 15 }
+    ensures { result ≡ word + length (decimal number) }
+{
+    word + decimal_length(number)
 }
