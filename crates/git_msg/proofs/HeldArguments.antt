@@ -24,6 +24,7 @@ use Rattle.git_msg.specs.Asked.{is_word, is_of, of_word, last_counts, all_or_las
 use Rattle.git_msg.specs.Asked.{id_of, ids, number, number_of, text_of, texts, where_asked, where_given, with_one}
 use Rattle.git_msg.specs.Machine.ArgumentLists.{held, held_at, ids_at, is_held, number_at, number_place, object_place, place_of, text_place, texts_at}
 use Rattle.git_msg.specs.Machine.HeldTexts.{texts_of}
+use Rattle.git_msg.specs.Prefixes.{IsOrdered, ShowAlike, is_shown}
 use Rattle.git_msg.specs.Texts.{last_of}
 use Rattle.git_msg.proofs.HeadWords.{itself, same_word}
 use Rattle.git_msg.proofs.WrittenArguments.{added, all_flat, any_of, by_value, found, in_order, is_some, same_lists, with_one_more}
@@ -251,6 +252,29 @@ module _ {A : Type 0} (q : ArgumentLists A) where
       ∙ ap (map (with_text of)) (now ∙ ap (λ (b : Bool). if b then texts_of new else texts_at q of) test)
   elsewhere at new word there within of other = refl
 
+  -- and there they are the new ones
+  texts_now : (at : ℕ) (new : Texts A) (word : TextWord) → at ≡ text_place word → at < length q.texts
+      → texts_at (record q { texts = set q.texts at new }) word ≡ texts_of new
+  texts_now at new word there within =
+      ap (λ (l : List (List (List ℕ))). get_or l (text_place word) []) (map-set texts_of q.texts at new)
+      ∙ get_or-set_at (map texts_of q.texts) at (text_place word) (texts_of new) [] (sym there) (omega (arith, within, length-map q.texts texts_of))
+
+  texts_then : (at : ℕ) (x : Texts A) (word : TextWord) → at ≡ text_place word → at < length q.texts → x ≡ get_or q.texts at x
+      → texts_at q word ≡ texts_of x
+  texts_then at x word there within own =
+      ap (λ (n : ℕ). get_or (map texts_of q.texts) n []) (sym there) ∙ get_or-map texts_of q.texts at x [] within ∙ ap texts_of (sym own)
+
+  pub ordered_now : (at : ℕ) (new : Texts A) (word : TextWord) → at ≡ text_place word → at < length q.texts → IsOrdered (texts_of new)
+      → IsOrdered (texts_at (record q { texts = set q.texts at new }) word)
+  ordered_now at new word there within h = subst IsOrdered (sym (texts_now at new word there within)) h
+
+  pub alike_now : (at : ℕ) (x new : Texts A) (word : TextWord) → at ≡ text_place word → at < length q.texts → x ≡ get_or q.texts at x
+      → ShowAlike (texts_of x) (texts_of new) → ShowAlike (texts_at q word) (texts_at (record q { texts = set q.texts at new }) word)
+  alike_now at x new word there within own h name =
+      ap (λ (ps : List (List ℕ)). is_shown ps name) (texts_then at x word there within own)
+      ∙ h name
+      ∙ sym (ap (λ (ps : List (List ℕ)). is_shown ps name) (texts_now at new word there within))
+
   -- nothing is held in empty lists
   none_at : ((place : ℕ) → get_or q.flags.set place false ≡ false) → ((word : ObjectWord) → ids_at q word ≡ [])
       → ((word : TextWord) → texts_at q word ≡ []) → ((word : NumberWord) → number_at q word ≡ None) → (word : Word) → held_at q word ≡ []
@@ -298,3 +322,18 @@ fewer_held q new f less = by_words words
           sum_by-append f (held_at new word) (flat_map (held_at new) order),
           sum_by-append f (held_at q word) (flat_map (held_at q) order),
         )
+
+-- the arguments of words whose lists are the same are found alike
+pub flag_found : {A : Type 0} (q new : ArgumentLists A) (flag : Flag) → held_at new (of_flag flag) ≡ held_at q (of_flag flag)
+    → flag_among (held new) flag ≡ flag_among (held q) flag
+unfolding held
+flag_found q new flag same =
+    any_of (of_flag flag) (held new) ∙ ap is_some (found (held_at new) (held_own new) (of_flag flag) ∙ same)
+    ∙ sym (any_of (of_flag flag) (held q) ∙ ap is_some (found (held_at q) (held_own q) (of_flag flag)))
+
+pub prefixes_alike : {A : Type 0} (q new : ArgumentLists A) → ShowAlike (texts_at q TextWord.RefPrefix) (texts_at new TextWord.RefPrefix)
+    → ShowAlike (texts TextWord.RefPrefix (held q)) (texts TextWord.RefPrefix (held new))
+prefixes_alike q new alike name =
+    ap (λ (ps : List (List ℕ)). is_shown ps name) (texts_are q TextWord.RefPrefix)
+    ∙ alike name
+    ∙ sym (ap (λ (ps : List (List ℕ)). is_shown ps name) (texts_are new TextWord.RefPrefix))

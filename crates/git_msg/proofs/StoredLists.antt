@@ -34,6 +34,11 @@ module _ {A : Type 0} (q : ArgumentLists A) where
       → texts_stored new ≡ texts_stored x + more → stored (record q { texts = set q.texts at new }) ≡ stored q + more
   stores_text at x new more within own is = omega (arith, sum_with texts_stored q.texts at x new within own, is)
 
+  -- with as many
+  pub keeps_texts : (at : ℕ) (x new : Texts A) → at < length q.texts → x ≡ get_or q.texts at x
+      → texts_stored new ≡ texts_stored x → stored (record q { texts = set q.texts at new }) ≡ stored q
+  keeps_texts at x new within own is = omega (arith, sum_with texts_stored q.texts at x new within own, is)
+
   -- or with no more
   pub stores_texts : (at : ℕ) (x new : Texts A) → at < length q.texts → x ≡ get_or q.texts at x
       → texts_stored new ≤ texts_stored x → stored (record q { texts = set q.texts at new }) ≤ stored q

@@ -18,14 +18,14 @@ range_apart format (with_number word number) h k = k h
 
 value_apart : (c : Command) (format : Format) (arg : Arg) (kind : Kind) → IsValue c format arg → IsValueFault c format arg kind → ⊥
 value_apart c format arg kind h (inl fault) = fault.0 h.0
-value_apart c format arg kind h (inr fault) = range_apart format arg h.1 fault.1.0
+value_apart c format arg kind h (inr fault) = range_apart format arg h.1 fault.1
 
 value_single : (c : Command) (format : Format) (arg : Arg) (kind other : Kind) → IsValueFault c format arg kind → IsValueFault c format arg other
     → kind ≡ other
 value_single c format arg kind other (inl h) (inl k) = h.1 ∙ sym k.1
 value_single c format arg kind other (inl h) (inr k) = absurd (h.0 k.0)
 value_single c format arg kind other (inr h) (inl k) = absurd (k.0 h.0)
-value_single c format arg kind other (inr h) (inr k) = h.1.1 ∙ sym k.1.1
+value_single c format arg kind other (inr h) (inr k) = h.2 ∙ sym k.2
 
 module _ {A : Type 0} where
   fair_adding : (request : Request A) (arg : Arg) → AllFair (add_checks request arg)

@@ -1,5 +1,7 @@
 //! Requests as they are kept.
-ghost use Rattle.std.specs.Prelude.{◌≡◌, ◌+◌, ◌≤◌, decimal, length, OnOk, OnErr, IfErr, MatchResult};
+ghost use Rattle.std.specs.Prelude.{◌≡◌, ◌+◌, ◌^◌, ◌≤◌, ◌<◌, decimal, length, OnOk, OnSome, OnErr, IfErr, IfSome, MatchResult, slice_get};
+ghost use Rattle.std.specs.Option.{option_map};
+ghost use Rattle.git_pkt.specs.Packets.{longest_payload};
 ghost use Rattle.git_msg.specs.Arguments.{shown, written_text};
 
 use crate::arguments::{Argument, Command, check_value, put_together, word_at};
@@ -93,7 +95,7 @@ impl<A: Allocator + Copy> Request<A> {
             (λ kind. (¬ AreOffered offer.now (asked_of self.now)) × (kind ≡ Kind.NotAdvertised)) }
     {
         let mut i = 0;
-        'arguments: while let Some(argument) = self.arguments().argument(i) {
+        'arguments: while let Some(argument) = self.argument(i) {
             if !word_at(&argument).is_offered(offer) {
                 return Err(Kind::NotAdvertised);
             }
@@ -141,6 +143,15 @@ impl<A: Allocator + Copy> Request<A> {
         ensures { result.args ≡ limit_of self.now }
     {
         self.arguments().limits()
+    }
+
+    /// The argument at index `i`, in the order in which they are written.
+    pub(crate) fn argument(&self, i: usize) -> Option<Argument<'_>>
+        ensures value { option_map shown result ≡ slice_get (arguments_in (asked_of self.now)) i }
+        ensures bound { OnSome result (i + 1 < 2 ^ 64) }
+        ensures fits { IfSome result (λ argument. length (written_text (shown argument)) < longest_payload) }
+    {
+        self.arguments().argument(i)
     }
 }
 

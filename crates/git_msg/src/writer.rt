@@ -122,7 +122,7 @@ fn put_from<A: Allocator + Copy>(request: &Request<A>, i: usize, hold: &mut Hold
         → PutsFirst (lines_from (Next.Argument i) agent object_format format (asked_of request.now))
         (lines_from result agent object_format format (asked_of request.now)) hold.new.items }
 {
-    match request.arguments().argument(i) {
+    match request.argument(i) {
         Some(argument) => {
             put_argument(hold, &argument);
             Next::Argument(i + 1)
