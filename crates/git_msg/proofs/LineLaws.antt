@@ -198,7 +198,7 @@ payload_argument offer limit before bytes line h = absurd h
 pub one_argument_text : (offer : Offer) (before : List Line) (text : List ℕ) (a b : Arg)
     → IsArgumentText offer before text a → IsArgumentText offer before text b → a ≡ b
 one_argument_text offer before text a b h k =
-    let same = same_command before h.of k.of h.asked k.asked in
+    let same = same_command (commands_of before) h.of k.of h.asked k.asked in
     one_argument h.of offer.format text a b h.reads.is_argument (rw (← same) at k.reads.is_argument)
 
 -- the text of an argument is refused only for the limit
