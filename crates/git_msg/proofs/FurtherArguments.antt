@@ -26,7 +26,7 @@ one_more lines arg long r q bounded h k = search (rules, delimiter_snoc, command
 -- an argument's text is no shorter than its written form
 as_stated : (format : Format) (value : List ℕ) (arg : Arg) → StatesValue format value arg → length (written_value arg) ≤ length value
 as_stated format value (alone flag) h = omega arith
-as_stated format value (with_id word id) h = search (rules, length-hex_of, named_in)
+as_stated format value (with_id word id) h = omega (arith, length-hex_of format id (named_in format value id h), h.count)
 as_stated format value (with_text word text) h = let e = ap length h.0 in omega arith
 as_stated format value (with_number word number) h =
     decimal_is_shortest value number (small_number word number h.in_range) h.is_number

@@ -1,7 +1,8 @@
 -- The bytes stored of a request are counted with each further argument, and what follows for its arguments in their order.
 use Rattle.std.proofs.Common.{arith, refl, Bool, true, false, Bor, if◌then◌else◌, ◌≡◌, ℕ, ◌+◌, ◌<◌, ◌≤◌, ◌^◌, Option, Some, None, List, [], ◌∷◌, ◌++◌, ap, sym, subst, rules}
 use Rattle.std.proofs.Common.{length, option_map, length-append}
-use Rattle.std.specs.Prelude.{All, IfSome, OnSome, slice_get}
+use Rattle.std.specs.Prelude.{All, IfSome, OnErr, OnOk, OnSome, Result, Ok, Err, slice_get}
+use Rattle.git_pkt.specs.declared.fault.Kind.{Kind}
 use Rattle.std.specs.Option.{option_copied}
 use Rattle.std.proofs.lemmas.List.Elements.{All-push, All-weaker}
 use Rattle.std.proofs.lemmas.List.Sums.{sum_by-cons}
@@ -102,6 +103,12 @@ stays_sound old new arg long h range counted space keeps =
 pub stay_of : (command : Command) (args : List Arg) (arg : Arg) → AreOf command args → command_with arg ≡ command → AreOf command (with_one args arg)
 stay_of command args arg all of =
     all_written (λ a. command_with a ≡ command) (args ++ arg ∷ []) (All-push (λ a. command_with a ≡ command) args arg all of)
+
+-- whether or not it was kept
+pub stay_kept : (command : Command) (result : Result (Unit {0}) Kind) (old new : Kept (List Arg)) (arg : Arg) (long : ℕ) → AreOf command old.asked
+    → command_with arg ≡ command → OnOk result (KeepsOne old arg long new) → OnErr result (new ≡ old) → AreOf command new.asked
+stay_kept command (Ok done) old new arg long all of kept same = subst (AreOf command) (sym kept.asked) (stay_of command old.asked arg all of)
+stay_kept command (Err kind) old new arg long all of kept same = subst (λ (q : Kept (List Arg)). AreOf command q.asked) (sym same) all
 
 -- so the values of a request of the command are allowed there
 pub has_values : (format : Format) (asked : Asked) (args : List Arg) → arguments_in asked ≡ args → AreOf (command_asked asked) args

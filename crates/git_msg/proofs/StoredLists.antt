@@ -30,9 +30,9 @@ module _ {A : Type 0} (q : ArgumentLists A) where
   stores_ids at x new within own is = omega (arith, sum_with (λ (l : Vec ObjectName A). length l.items) q.objects at x new within own, ap length is)
 
   -- texts with so many bytes more
-  pub stores_text : (at : ℕ) (x new : Texts A) (more : ℕ) → at < length q.texts → x ≡ get_or q.texts at x
-      → texts_stored new ≡ texts_stored x + more → stored (record q { texts = set q.texts at new }) ≡ stored q + more
-  stores_text at x new more within own is = omega (arith, sum_with texts_stored q.texts at x new within own, is)
+  pub stores_text : (at : ℕ) (x new : Texts A) (more long : ℕ) → at < length q.texts → x ≡ get_or q.texts at x
+      → texts_stored new ≡ texts_stored x + (long + 6) → more ≡ long + 6 → stored (record q { texts = set q.texts at new }) ≡ stored q + more
+  stores_text at x new more long within own is same = omega (arith, sum_with texts_stored q.texts at x new within own, is, same)
 
   -- with as many
   pub keeps_texts : (at : ℕ) (x new : Texts A) → at < length q.texts → x ≡ get_or q.texts at x
@@ -45,13 +45,13 @@ module _ {A : Type 0} (q : ArgumentLists A) where
   stores_texts at x new within own is = omega (arith, sum_with texts_stored q.texts at x new within own, is)
 
   -- a refused list was to have no more bytes than all lists together
-  pub refused_id : (refuses : ℕ → Type 0) (at : ℕ) (x : Vec ObjectName A) → at < length q.objects → x ≡ get_or q.objects at x
-      → HasRefused refuses (33 * (length x.items + 1)) → HasRefused refuses (stored q + 33)
-  refused_id refuses at x within own h =
-      refused_within refuses (33 * (length x.items + 1)) (stored q + 33)
-      (omega (arith, sum_above (λ (l : Vec ObjectName A). length l.items) q.objects at x within own)) h
+  pub refused_id : (refuses : ℕ → Type 0) (at : ℕ) (x : Vec ObjectName A) (more : ℕ) → at < length q.objects → x ≡ get_or q.objects at x → more ≡ 33
+      → HasRefused refuses (33 * (length x.items + 1)) → HasRefused refuses (stored q + more)
+  refused_id refuses at x more within own same h =
+      refused_within refuses (33 * (length x.items + 1)) (stored q + more)
+      (omega (arith, same, sum_above (λ (l : Vec ObjectName A). length l.items) q.objects at x within own)) h
 
-  pub refused_text : (refuses : ℕ → Type 0) (at : ℕ) (x : Texts A) (more : ℕ) → at < length q.texts → x ≡ get_or q.texts at x
-      → HasRefused refuses (texts_stored x + more) → HasRefused refuses (stored q + more)
-  refused_text refuses at x more within own h =
-      refused_within refuses (texts_stored x + more) (stored q + more) (omega (arith, sum_above texts_stored q.texts at x within own)) h
+  pub refused_text : (refuses : ℕ → Type 0) (at : ℕ) (x : Texts A) (more long : ℕ) → at < length q.texts → x ≡ get_or q.texts at x → more ≡ long + 6
+      → HasRefused refuses (texts_stored x + (long + 6)) → HasRefused refuses (stored q + more)
+  refused_text refuses at x more long within own same h =
+      refused_within refuses (texts_stored x + (long + 6)) (stored q + more) (omega (arith, same, sum_above texts_stored q.texts at x within own)) h

@@ -1,5 +1,5 @@
 //! The words at the head of arguments, by the shape of what follows them.
-ghost use Rattle.std.specs.Prelude.{◌≡◌, ◌≢◌, ◌+◌, ◌*◌, ◌<◌, ◌≤◌, ℕ, List, MatchBool, MatchOption, MatchResult, length};
+ghost use Rattle.std.specs.Prelude.{◌≡◌, ◌≢◌, ◌+◌, ◌*◌, ◌<◌, ◌≤◌, ℕ, List, IfSome, MatchBool, MatchOption, MatchResult, length};
 ghost use Rattle.git_names.specs.Steps.{TakesAtMost};
 ghost use Rattle.git_pkt.specs.declared.fault.Kind.{Kind};
 ghost use Rattle.git_msg.specs.Arguments.{IsNoArgument, IsNoNumberIn, IsNoTextOf, IsNumberIn, IsNumberOf, IsTextOf, line_of, refusal_of, row, words_of};
@@ -110,6 +110,7 @@ impl Command {
     pub(crate) fn split<'a>(self, text: &'a [u8], steps: &mut Steps) -> Option<(Word, &'a [u8])>
         ensures parts { MatchOption result (IsNoArgument self text.now)
             (λ parts. ((row parts.0).command ≡ self) × (text.now ≡ line_of parts.0 parts.1.now)) }
+        ensures shorter { IfSome result (λ parts. length parts.1.now ≤ length text.now) }
         ensures cost { TakesAtMost (15 * (length text.now + 1)) steps.old steps.new }
     {
         let words = self.words();
@@ -176,7 +177,8 @@ impl Word {
 
     // The text after the word, if the word is at the head of this line; nothing follows a flag.
     fn value_in(self, line: &[u8]) -> Option<&[u8]>
-        ensures { MatchOption result ((value : List ℕ) → line.now ≢ line_of self value) (λ value. line.now ≡ line_of self value.now) }
+        ensures value { MatchOption result ((value : List ℕ) → line.now ≢ line_of self value) (λ value. line.now ≡ line_of self value.now) }
+        ensures shorter { IfSome result (λ value. length value.now ≤ length line.now) }
     {
         match self {
             Word::Flag(flag) => {

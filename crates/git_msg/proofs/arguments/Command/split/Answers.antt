@@ -6,7 +6,7 @@ pub words-init : goal.words-init
 words-init c = search (rules, none_past)
 
 pub words-preserved : goal.words-preserved
-words-preserved c = record { within = omega arith; none = none_at _ _ _ _ _ (omega arith) (omega arith) c.words.invariant.none c.in_default.ensures }
+words-preserved c = record { within = omega arith; none = none_at _ _ _ _ _ (omega arith) (omega arith) c.words.invariant.none c.in_default.ensures.value }
 
 pub returns-clause-parts : goal.returns-clause-parts
 returns-clause-parts c = none_there _ _ _ _ c.words-words.ensures.words (omega arith) c.words.invariant.none

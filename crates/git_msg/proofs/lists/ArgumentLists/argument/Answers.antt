@@ -21,8 +21,7 @@ returns g c =
     sym (c.loop-word.invariant ∙ ap (λ (n : ℕ). slice_get (flat_map (held_at c.args.self.now) (drop n words)) c.loop-word.left) past)
 
 pub returns-in-Ok : goal.returns-in-Ok
-returns-in-Ok g c = sym (
-  c.loop-word.invariant
-  ∙ ap (λ (args : List Arg). slice_get args c.loop-word.left) (from_word c.args.self.now words c.loop-word.word-index _ c.loop-word-test.true)
-  ∙ c.in-Ok.ensures (flat_map (held_at c.args.self.now) (drop (c.loop-word.word-index + 1) words)),
-)
+returns-in-Ok g c =
+    sym (c.loop-word.invariant
+    ∙ ap (λ (args : List Arg). slice_get args c.loop-word.left) (from_word c.args.self.now words c.loop-word.word-index _ c.loop-word-test.true)
+    ∙ c.in-Ok.ensures (flat_map (held_at c.args.self.now) (drop (c.loop-word.word-index + 1) words)))

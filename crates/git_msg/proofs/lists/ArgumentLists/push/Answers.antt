@@ -1,4 +1,5 @@
-use Rattle.std.proofs.Common.{rules}
+use Rattle.std.proofs.Common.{rules, ◌≡◌, ◌+◌, ap, length}
+use Rattle.git_msg.specs.Arguments.{shown, stored_in}
 use Rattle.git_msg.proofs.HeldArguments.{adds_flag, adds_id, adds_number, adds_text, same_ids, same_texts}
 use Rattle.git_msg.proofs.StoredLists.{keeps_texts, refused_id, refused_text, stores_id, stores_ids, stores_text}
 use Rattle.git_msg.proofs.lists.ArgumentLists.push.Goals as goal
@@ -16,19 +17,22 @@ pub returns-in-Object-clause-unchanged : goal.returns-in-Object-clause-unchanged
 returns-in-Object-clause-unchanged g c = search (rules, same_ids, stores_ids)
 
 pub returns-in-Object-clause-memory : goal.returns-in-Object-clause-memory
-returns-in-Object-clause-memory g c = rw c.in-Object.is (search (rules, refused_id))
+returns-in-Object-clause-memory g c =
+    let more : stored_in (shown c.args.argument.now) ≡ 33 = ap stored_in (ap shown c.in-Object.is) in search (rules, refused_id)
 
 pub returns-in-Text-clause-ok : goal.returns-in-Text-clause-ok
 returns-in-Text-clause-ok g c = search (rules, adds_text)
 
 pub returns-in-Text-clause-stored : goal.returns-in-Text-clause-stored
-returns-in-Text-clause-stored g c = rw c.in-Text.is (search (rules, stores_text))
+returns-in-Text-clause-stored g c =
+    let more : stored_in (shown c.args.argument.now) ≡ length c.in-Text.text.now + 6 = ap stored_in (ap shown c.in-Text.is) in search (rules, stores_text)
 
 pub returns-in-Text-clause-unchanged : goal.returns-in-Text-clause-unchanged
 returns-in-Text-clause-unchanged g c = search (rules, same_texts, keeps_texts)
 
 pub returns-in-Text-clause-memory : goal.returns-in-Text-clause-memory
-returns-in-Text-clause-memory g c = rw c.in-Text.is (search (rules, refused_text))
+returns-in-Text-clause-memory g c =
+    let more : stored_in (shown c.args.argument.now) ≡ length c.in-Text.text.now + 6 = ap stored_in (ap shown c.in-Text.is) in search (rules, refused_text)
 
 pub returns-in-Number-clause-ok : goal.returns-in-Number-clause-ok
 returns-in-Number-clause-ok g c = search (rules, adds_number)
