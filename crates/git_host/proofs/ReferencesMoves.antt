@@ -115,7 +115,7 @@ module _ (format : Format) (q : List Arg) (t : ReferencesFacts) (last : Option (
       ap (λ (refs : List Entry). unborn_packets q t.unborn ++ map (reference_packet (symrefs_in q) (peel_in q)) refs)
       (filter_more (λ (r : Entry). is_shown (ref_prefixes_in q) r.name) t.refs entry true e)
       ∙ ap (λ (l : List Pkt). unborn_packets q t.unborn ++ l) (map_more (reference_packet (symrefs_in q) (peel_in q)) (shown_refs
-          (ref_prefixes_in q) t.refs) entry)
+      (ref_prefixes_in q) t.refs) entry)
       ∙ sym (append_assoc (unborn_packets q t.unborn) (map (reference_packet (symrefs_in q) (peel_in q)) (shown_refs (ref_prefixes_in q) t.refs))
       (reference_packet (symrefs_in q) (peel_in q) entry ∷ []))
   refs_on entry false e =

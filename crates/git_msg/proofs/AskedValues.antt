@@ -34,8 +34,8 @@ pub none_wanted : (q : List Arg) (alone : Bool) → length (wants_in q) ≡ 0 �
 none_wanted q true none refs is = inr is
 none_wanted q false none refs is = λ h. elim h [
   | inl some ↦ elim (slice_get_cases (want_refs_in q) 0).1 [
-      | inl found ↦ let here = found.2 in absurd (cc)
-      | inr past ↦ omega (arith, some, none, past.0)
-    ]
+    | inl found ↦ let here = found.2 in absurd (cc)
+    | inr past ↦ omega (arith, some, none, past.0)
+  ]
   | inr negotiates ↦ absurd (cc)
 ]

@@ -96,7 +96,7 @@ module _ {A : Type 0} (repo : Repository) (rising : IsRising repo.refs) (at : �
       let (id, here) = item_there (wants_in q) next stands.within in
       let count : length a.wants ≡ next =
       ap length stands.so_far ∙ length-map (take next (wants_in q)) (λ (i : ObjectName). true)
-          ∙ length-take-le next (wants_in q) (omega (arith, stands.within)) in
+      ∙ length-take-le next (wants_in q) (omega (arith, stands.within)) in
       one_want repo rising at named what taken q a t so next id count here reply report
       (subst (λ (x : Question). IsReplyOf repo at named x reply) (item_asked ask_want (wants_in q) next id question here asks) is) reports
   admission_reply x q a t front (NeedWantRef next) question reply report h needed asks is reports so =

@@ -224,7 +224,11 @@ fn oid_at<A: Allocator + Copy>(server: &HostServer<A>, at: usize) -> Option<Oid>
     ensures { option_map ask_size result ≡ question_at server.now (Need.Size at) }
 {
     let request = server.request()?;
-    request.arguments().ids(ObjectWord::ObjectId).get(at).copied()
+    request
+        .arguments()
+        .ids(ObjectWord::ObjectId)
+        .get(at)
+        .copied()
 }
 
 // The request at hand, if it is a fetch.

@@ -44,7 +44,7 @@ returns-clause-time c = record {
 }
 
 pub returns-clause-reference : goal.returns-clause-reference
-returns-clause-reference c = 
+returns-clause-reference c =
     record { is_argument = (refl, record { value = codes "refs/heads/@"; spelled = refl; states = (refl, ref_by (codes "refs/heads/@") refl refl) }); offered = refl }
 
 pub returns-clause-flag : goal.returns-clause-flag

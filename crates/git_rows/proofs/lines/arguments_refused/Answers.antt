@@ -109,6 +109,6 @@ pub returns-clause-not_by_another_name : goal.returns-clause-not_by_another_name
 returns-clause-not_by_another_name c = λ h. let same = one_argument_fault Fetch offer_all (codes "deepen 0") BadLine BadNumber h depth_of_zero in cc
 
 pub returns-clause-not_where_it_is_read : goal.returns-clause-not_where_it_is_read
-returns-clause-not_where_it_is_read c = 
+returns-clause-not_where_it_is_read c =
     λ h. argument_or_fault LsRefs offer_all (codes "unborn") (alone Flag.Unborn) NotAdvertised
     (record { is_argument = (refl, record { value = []; spelled = refl; states = tt }); offered = refl }) h
