@@ -29,7 +29,7 @@ as_stated format value (alone flag) h = omega arith
 as_stated format value (with_id word id) h = omega (arith, length-hex_of format id (named_in format value id h), h.count)
 as_stated format value (with_text word text) h = let e = ap length h.0 in omega arith
 as_stated format value (with_number word number) h =
-    decimal_is_shortest value number (small_number word number h.in_range) h.is_number
+    decimal_is_shortest number value (small_number word number h.in_range) h.is_number
 
 pub as_written : (format : Format) (text : List ℕ) (arg : Arg) → HasArgument format text arg → length (written_text arg) ≤ length text
 as_written format text arg h =
