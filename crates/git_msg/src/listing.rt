@@ -19,7 +19,7 @@ pub struct Listing<A: Allocator + Copy> {
 impl<A: Allocator + Copy> Model for Listing<A> {
     ghost use Rattle.std.specs.Prelude.{List};
     ghost use Rattle.git_msg.specs.Arguments.{Arg};
-    ghost use Rattle.git_msg.specs.Asked.{ref_prefixes_in, peel_in, symrefs_in, unborn_in};
+    ghost use Rattle.git_msg.specs.Asked.{ref_prefixes_in};
     ghost use Rattle.git_msg.specs.Kept.{Kept};
     ghost use Rattle.git_msg.specs.Prefixes.{IsOrdered};
 
@@ -33,7 +33,7 @@ impl<A: Allocator + Copy> Model for Listing<A> {
 }
 
 impl<A: Allocator + Copy> Listing<A> {
-    ghost use Rattle.git_msg.specs.Asked.{flag_among, ref_prefixes_in};
+    ghost use Rattle.git_msg.specs.Asked.{flag_among, peel_in, ref_prefixes_in, symrefs_in, unborn_in};
     ghost use Rattle.git_msg.specs.Prefixes.{IsOrdered, OrdersPrefixes, SplitsAt, is_shown};
 
     /// Wraps the request, with its prefixes in the order in which they came.
