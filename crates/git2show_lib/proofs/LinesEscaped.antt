@@ -1,6 +1,6 @@
 -- The escapes of bytes, appended a block at a time.
-use Rattle.std.proofs.Common.{◌≡◌, ℕ, List, [], ◌++◌, length, refl, sym, ap, ◌∙◌, append_assoc, append-nil}
-use Rattle.std.proofs.lemmas.List.{nil_from_length}
+use Rattle.std.proofs.Common.{◌≡◌, ℕ, ◌+◌, List, [], ◌++◌, length, refl, sym, ap, ◌∙◌, append_assoc, append-nil}
+use Rattle.std.proofs.lemmas.List.{length-append, nil_from_length}
 use Rattle.git_pkt.specs.Escape.{escaped_of}
 use Rattle.git_pkt.proofs.Escapes.{escaped-append}
 
@@ -9,6 +9,9 @@ pub record EscapedUpTo (before bytes lines rest : List ℕ) : Type 0 where
   pub done : List ℕ
   pub parts : done ++ rest ≡ bytes
   pub lines_are : lines ≡ before ++ escaped_of done
+
+pub cut_length : {left block rest : List ℕ} → left ≡ block ++ rest → length left ≡ length block + length rest
+cut_length {block = block} {rest = rest} cut = ap length cut ∙ length-append block rest
 
 pub escaped_none : (before bytes lines rest : List ℕ) → lines ≡ before → rest ≡ bytes → EscapedUpTo before bytes lines rest
 escaped_none before bytes lines rest same all = record { done = []; parts = all; lines_are = same ∙ sym (append-nil before) }
