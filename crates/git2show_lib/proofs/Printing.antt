@@ -1,6 +1,6 @@
 -- What is shown of packets, call by call of a shower, and what a run of it means for its streams.
 use Rattle.std.proofs.Common.{◌≡◌, ◌≢◌, ◌⊎◌, inl, inr, ℕ, zero, suc, ◌+◌, ◌-◌, ◌<◌, ◌≤◌, Bool, true, false, List, [], ◌∷◌, ◌++◌, length, take, drop}
-use Rattle.std.proofs.Common.{Option, Some, None, Result, Ok, Err, IsErrAnd, IfErr, OnOk, arith, ap, sym, ◌∙◌, refl, subst}
+use Rattle.std.proofs.Common.{IsSome, Option, Some, None, Result, Ok, Err, IsErrAnd, IfErr, OnOk, arith, ap, sym, ◌∙◌, refl, subst}
 use Rattle.std.proofs.Common.{append_assoc, append-nil, length-drop, zero-add}
 use Rattle.std.proofs.Math.Seq.{take-length}
 use Rattle.git_pkt.specs.Splits.{Given}
@@ -27,7 +27,7 @@ use Rattle.git2show_lib.specs.PacketViews.{after, shown, tally_of, viewed}
 use Rattle.git2show_lib.specs.declared.views.Tally.{Tally}
 use Rattle.git2show_lib.specs.declared.views.View.{View}
 use Rattle.git2show_lib.specs.Machine.HeldLines.{HeldLines}
-use Rattle.git2show_lib.specs.Machine.ShowerStates.{Gathers, HasShown, IsTooLong, ShowerReaches, StandsIn, Waits, fault_in, is_over, waits_in_time}
+use Rattle.git2show_lib.specs.Machine.ShowerStates.{Gathers, HasShown, IsTooLong, ShowerReaches, StandsIn, Waits, fault_in, is_over, reaches_itself, waits_in_time}
 use Rattle.git2show_lib.specs.Machine.ShownStream.{EndsAs, Shows, ShowsView}
 use Rattle.git2show_lib.specs.declared.shower.Phase.{Phase}
 use Rattle.git2show_lib.specs.declared.shower.Phase.TheVariants.{Gathering, Stopped, Closed}
@@ -146,14 +146,26 @@ module _ {b c : PacketReader} (chunk : List ℕ) (done : ℕ) {fed : Fed} (withi
 -- what was not used has to be one byte, or more
 pub some_done : (done : ℕ) → (done ≡ 0 → ⊥) → 0 < done
 some_done zero none = absurd (none refl)
-some_done (suc n) none = arith
+some_done (suc n) none = omega arith
 
 -- ---- the calls of a shower
 
+pub used_some : {fault : Option Fault} (count : ℕ) → fault ≡ None → (0 < count) ⊎ IsSome fault → 0 < count
+used_some count none (inl uses) = uses
+used_some count none (inr some) = let no : IsSome {T = Fault} None = subst IsSome none some in absurd (cc)
+
 module _ {V : Type 0} (view_of : V → Option View) (s : Shower V) where
+  -- no line waited
+  pub stays : (lines : HeldLines) → lines ≡ s.lines
+      → ShowerReaches view_of s [] (record { packets = s.packets; lines = lines; renderer = s.renderer; tally = s.tally; phase = s.phase })
+  stays lines same =
+      subst (λ (l : HeldLines).
+      ShowerReaches view_of s [] (record { packets = s.packets; lines = l; renderer = s.renderer; tally = s.tally; phase = s.phase }))
+      (sym same) (reaches_itself view_of s)
+
   -- the lines were lent
   pub gives_part : (to : ℕ) (lines : HeldLines) → to ≡ 0 → lines.waiting ≡ [] → lines.lent ≡ s.lines.waiting
-      → GivesPart (ShowerReaches view_of) (λ m bytes. bytes ≡ m.lines.lent) s to
+      → GivesPart (ShowerReaches view_of) (λ (m : Shower V) (bytes : List ℕ). bytes ≡ m.lines.lent) s to
       (record { packets = s.packets; lines = lines; renderer = s.renderer; tally = s.tally; phase = s.phase })
   gives_part to lines first empty lent =
       let w = s.lines.waiting in
@@ -213,10 +225,11 @@ module _ {V : Type 0} (view_of : V → Option View) (s : Shower V) where
       (record { packets = packets; lines = s.lines; renderer = s.renderer; tally = s.tally; phase = phase })
   reaches_closed from packets phase first carries stands =
       let new : Shower V = record { packets = packets; lines = s.lines; renderer = s.renderer; tally = s.tally; phase = phase } in
+      let none : Gathers (view_of s.renderer) s.tally s.tally s.packets packets [] s.lines.waiting s.lines.waiting =
+      record { packets = []; reads = carries; lines = sym (append-nil s.lines.waiting); tally = refl } in
       subst (λ (n : ℕ). ShowerReaches view_of s (closed n ∷ []) new) (sym first) (λ view start so_far over given h.
       subst (λ (l : List ℕ). HasShown view_of view start (so_far ++ []) true l new) (sym (append-nil given))
-      (went_on s.lines phase (record { packets = []; reads = carries; lines = sym (append-nil s.lines.waiting); tally = refl })
-      view start so_far over true given stands h))
+      (went_on s.lines phase none view start so_far over true given stands h))
 
 -- ---- the run
 
@@ -232,7 +245,7 @@ stopped_phase Closed f is = absurd (cc)
 
 some_left : (l : List ℕ) → l ≢ [] → 0 < length l
 some_left [] some = absurd (some refl)
-some_left (b ∷ l) some = arith
+some_left (b ∷ l) some = omega arith
 
 -- a fault is reported in time
 in_time : (kind : Kind) (ended : Bool) (unused : List ℕ) → (kind ≡ Truncated → (unused ≡ []) × (ended ≡ true))
@@ -241,11 +254,12 @@ in_time Truncated ended unused last more = last refl
 in_time StreamTooLong ended unused last more = more refl
 in_time kind ended unused last more = tt
 
--- what was given was written, and with it what waits, if that is nothing or a write failed
+-- the parts were written, and with them what waits, if that is nothing or a write failed
 all_written : (broken : Bool) (writer : Flow) (given waiting : List ℕ) → WrittenAs broken writer given → (broken ≡ false → waiting ≡ [])
     → WrittenAs broken writer (given ++ waiting)
 all_written false writer given waiting written none =
-    subst (λ (l : List ℕ). WrittenAs false writer (given ++ l)) (sym (none refl)) (subst (λ (l : List ℕ). WrittenAs false writer l) (sym (append-nil given)) written)
+    subst (λ (l : List ℕ). WrittenAs false writer (given ++ l)) (sym (none refl))
+    (subst (λ (l : List ℕ). WrittenAs false writer l) (sym (append-nil given)) written)
 all_written true writer given waiting written none = AppendsFront-longer writer.before writer.after given waiting written
 
 -- the state of a reader with this fault, or with none

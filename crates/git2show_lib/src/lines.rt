@@ -15,7 +15,7 @@ use git_pkt::{Packet, escape_into, is_plain, put_at};
 use itoa::Buffer;
 use std::marker::Model;
 
-/// With so many bytes the lines are full: they are given before the next packet is read.
+/// With so many bytes the lines are full: they are sent before the next packet is read.
 pub(crate) const FULL: usize = 65_536;
 
 /// How many bytes a payload has at most.
@@ -100,7 +100,7 @@ impl Lines {
     // Inlined, as all that it does once a packet: LLVM leaves what has two callers, a run with a view and one without, as calls.
     #[inline(always)]
     pub(crate) fn put(&mut self, packet: Packet<'_>, offset: u64)
-        requires room { length self.old.waiting < FULL }
+        requires space { length self.old.waiting < FULL }
         requires fits { length (body_of (seen packet)) ≤ PAYLOAD }
         ensures { self.new.waiting ≡ self.old.waiting ++ line_of (record { packet = seen packet.entry; offset = offset }) }
     {
@@ -115,7 +115,7 @@ impl Lines {
         packet: Packet<'_>,
         offset: u64,
     )
-        requires room { length self.old.waiting < FULL }
+        requires space { length self.old.waiting < FULL }
         requires fits { length (body_of (seen packet)) ≤ PAYLOAD }
         ensures { self.new.waiting ≡ self.old.waiting ++ view_line view.entry before (record { packet = seen packet.entry; offset = offset }) }
     {
@@ -131,7 +131,7 @@ impl Lines {
 
     /// Puts the line of columns of a packet behind the others.
     fn put_pretty(&mut self, look: Look, in_pack: bool, packet: Packet<'_>, offset: u64)
-        requires room { length self.old.waiting < FULL }
+        requires space { length self.old.waiting < FULL }
         ensures { self.new.waiting
             ≡ self.old.waiting ++ pretty_line look.colours look.width in_pack (record { packet = seen packet.entry; offset = offset }) }
     {
@@ -142,7 +142,7 @@ impl Lines {
 
     /// Puts the JSON object of a packet behind the others.
     fn put_json(&mut self, packet: Packet<'_>, offset: u64)
-        requires room { length self.old.waiting < FULL }
+        requires space { length self.old.waiting < FULL }
         requires fits { length (body_of (seen packet)) ≤ PAYLOAD }
         ensures { self.new.waiting ≡ self.old.waiting ++ json_line (record { packet = seen packet.entry; offset = offset }) }
     {

@@ -16,7 +16,7 @@ pub(crate) trait Renderer: Copy {
 
     /// Puts what is shown of a packet, after those that were counted, behind the other lines, and counts it.
     fn put(self, lines: &mut Lines, tally: &mut Tally, packet: Packet<'_>, offset: u64)
-        requires room { length lines.old.waiting < FULL }
+        requires space { length lines.old.waiting < FULL }
         requires fits { length (body_of (seen packet)) ≤ PAYLOAD }
         ensures put { lines.new.waiting
             ≡ lines.old.waiting ++ viewed (view self) tally.old (record { packet = seen packet.entry; offset = offset }) }

@@ -5,7 +5,7 @@ ghost use Rattle.git_pkt.specs.Machine.Engine.{FailsAs, IsShownBy, IsSpent};
 ghost use Rattle.git_pkt.specs.Machine.Recorded.{reads_of, has_failed, has_wasted, IsNew};
 ghost use Rattle.git_loop.specs.Machines.{RanOne};
 ghost use Rattle.git_loop.specs.OneStreams.{writer_of};
-ghost use Rattle.git2show_lib.specs.Machine.Sources.{EndsAtItsEnd, HaveSameReader, waiting_in};
+ghost use Rattle.git2show_lib.specs.Machine.Sources.{EndsAtItsEnd, waiting_in};
 
 use crate::source::Source;
 use git_loop::{Machine, OneOutput, run_streams};
@@ -73,7 +73,9 @@ fn run_source<M: Machine, R: Read, W: Write>(
     ensures fault { IfErr result (IsShownBy (IsTrue (has_failed source.new.reader.now)) (IsTrue (has_failed (writer_of output.new)))
         (IsSpent source.new.reader.now turns)) }
     ensures failed { FailsAs result (has_failed source.new.reader.now) (has_failed (writer_of output.new)) }
-    ensures same { HaveSameReader R.remaining source.old source.new }
+    ensures at_end { EndsAtItsEnd R.remaining source.new.reader.now }
+    ensures same_reader { source.new.reader.ghost_name ≡ source.old.reader.ghost_name }
+    ensures same_buffer { source.new.buffer.ghost_name ≡ source.old.buffer.ghost_name }
     ensures same_writer { output.new.writer.ghost_name ≡ output.old.writer.ghost_name }
 {
     run_streams(machine, source, output, turns)

@@ -1,4 +1,12 @@
 //! The packets of a stream as lines, a state machine that `git_loop` runs.
+//!
+//! ```text
+//!  Gathering -- feed: a fault, or close: a packet is open --> Stopped(fault)
+//!      |
+//!      +------- close: no packet is open ------------------> Closed
+//!
+//!  In each phase lines may wait. They are sent before it needs input, and before it has finished.
+//! ```
 
 ghost use Rattle.std.specs.Prelude.{◌≡◌, ◌⊎◌, ◌≤◌, ◌<◌, [], None, Some, IsSome, IfSome, length, take, true, false};
 ghost use Rattle.git_pkt.specs.Machine.PacketReader.{ShownByFeed, fault_of, passes_of};
@@ -158,7 +166,8 @@ impl<V: Renderer> Machine for Shower<V> {
         }
         match self.phase {
             Phase::Gathering => Next::NeedInput(0),
-            Phase::Stopped(_) | Phase::Closed => Next::Finished,
+            Phase::Stopped(_) => Next::Finished,
+            Phase::Closed => Next::Finished,
         }
     }
 

@@ -35,12 +35,13 @@ impl<'a, R: Read> Inputs for Source<'a, R> {
 
     ghost same_readers = { λ old new. HaveSameReader R.remaining old new };
 
-    ghost same_itself = { λ source. record { reader = refl; buffer = refl; at_end = λ h. h } };
+    ghost same_itself = { λ source. record { reader = refl; buffer = refl; at_end = λ useful. (useful, λ h. h) } };
 
     ghost same_further = { λ old middle new first second. record {
       reader = second.reader ∙ first.reader;
       buffer = second.buffer ∙ first.buffer;
-      at_end = λ h. second.at_end (first.at_end h);
+      at_end = λ useful.
+          let (so_far, later) = second.at_end useful in let (before, earlier) = first.at_end so_far in (before, λ h. later (earlier h));
     } };
 
     fn window(&self, from: u8) -> &[u8] {

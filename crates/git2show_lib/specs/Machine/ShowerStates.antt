@@ -53,7 +53,7 @@ module _ {V : Type 0} where
     pub sound : s.phase ≡ Gathering → fault_of s.packets ≡ None
     pub gathers : passes_of s.packets ≡ false
 
-  -- all lines were given, and more packets may come
+  -- all lines were sent, and more packets may come
   pub record Waits (s : Shower V) : Type 0 where
     pub gathering : s.phase ≡ Gathering
     pub all_given : s.lines.waiting ≡ []
@@ -68,7 +68,7 @@ module _ {V : Type 0} where
 -- ---- the calls of a run
 
 module _ {V : Type 0} (view_of : V → Option View) where
-  -- since it began with this count, a shower has used these bytes, and what is shown of their packets was given or waits
+  -- since it began with this count, a shower has used these bytes, and what is shown of their packets was sent or waits
   pub record HasShown (view : Option View) (start : Tally) (used : List ℕ) (over : Bool) (given : List ℕ) (s : Shower V) : Type 0 where
     pub packets : List Given
     pub rest : List ℕ

@@ -1,5 +1,5 @@
-use Rattle.std.proofs.Common.{rules, arith, ◌∙◌}
-use Rattle.git2show_lib.proofs.LinesEscaped.{cut_length, escaped_all, escaped_more, escaped_none}
+use Rattle.std.proofs.Common.{rules, ◌∙◌}
+use Rattle.git2show_lib.proofs.LinesEscaped.{escaped_all, escaped_more, escaped_none, still_within}
 use Rattle.git2show_lib.proofs.lines.write_blocks.Goals as goal
 
 pub loop-block-init : goal.loop-block-init
@@ -11,6 +11,6 @@ loop-block-preserved c =
     let steps = c.in-Some.ensures.steps in
     record {
       size = steps.0 ∙ so_far.size;
-      within = omega (arith, so_far.within, cut_length steps.1.0, c.write_block-end.ensures.within);
+      within = still_within _ _ steps.1.0 so_far.within c.write_block-end.ensures.within;
       escaped = escaped_more so_far.escaped _ _ _ steps.1.0 c.write_block-end.ensures.escaped;
     }
