@@ -1,6 +1,7 @@
 -- A reader that reports its end is at it.
-use Rattle.std.proofs.Common.{arith, ◌≡◌, ◌<◌, ◌==◌, ◌&&◌, ◌||◌, not, Bool, true, false, ℕ, zero, suc, List, [], ◌∷◌, length, Option, Result, Ok, Err}
+use Rattle.std.proofs.Common.{arith, ◌≡◌, ◌≢◌, ◌<◌, ◌==◌, ◌&&◌, ◌||◌, not, Bool, true, false, ℕ, List, [], ◌∷◌, length, Option, Result, Ok, Err}
 use Rattle.std.proofs.Common.{refl, sym, ap, ◌∙◌}
+use Rattle.std.proofs.lemmas.Bool.{eqb-true, eqb-false}
 use Rattle.std.specs.Io.KnownBytes.{IsAtEnd, ReadConsumes}
 use Rattle.git_pkt.specs.Machine.Recorded.{inner_of, gave_nothing, has_ended, has_wasted}
 use Rattle.git_pkt.specs.declared.fault.RunFault.{RunFault}
@@ -12,12 +13,20 @@ neither false false c none = (refl, refl)
 neither false true c none = absurd (cc)
 neither true b c none = absurd (cc)
 
+both : (a b : Bool) → (a && not b) ≡ true → (a ≡ true) × (b ≡ false)
+both true false e = (refl, refl)
+both true true e = absurd (cc)
+both false b e = absurd (cc)
+
+some_bytes : (buf : List ℕ) → length buf ≢ 0 → 0 < length buf
+some_bytes [] some = absurd (some refl)
+some_bytes (b ∷ buf) some = omega arith
+
 at_end_by : (before after : Option (List ℕ)) (result : Result ℕ RunFault) (buf : List ℕ) → ReadConsumes before after result buf
     → gave_nothing result buf ≡ true → IsAtEnd after
-at_end_by before after (Ok zero) [] read nothing = absurd (cc)
-at_end_by before after (Ok zero) (b ∷ buf) read nothing = read.1 refl (omega arith)
-at_end_by before after (Ok (suc n)) buf read nothing = absurd (cc)
-at_end_by before after (Err fault) buf read nothing = absurd (cc)
+at_end_by before after (Ok n) buf read nothing =
+    let (none, some) = both (n == 0) (length buf == 0) nothing in read.1 (eqb-true n 0 none) (some_bytes buf (eqb-false (length buf) 0 some))
+at_end_by before after (Err fault) buf read nothing = let no : false ≡ true = nothing in absurd (cc)
 
 -- one read more
 pub ends_read : {R : Type 0} (remaining : R → Option (List ℕ)) (old new : Recorded R) (buf : List ℕ) (empty : Bool) (result : Result ℕ RunFault)
