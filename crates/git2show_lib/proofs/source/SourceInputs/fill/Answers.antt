@@ -6,12 +6,14 @@ pub returns-in_err-count-clause-same_readers : goal.returns-in_err-count-clause-
 returns-in_err-count-clause-same_readers g c = record {
   reader = refl;
   buffer = refl;
-  at_end = ends_read _ _ _ c.receive.new.chunk _ c.receive.result c.receive.ensures.bytes c.receive.ensures.ended c.receive.ensures.wasted;
+  at_end = ends_read g.R.Read.remaining c.args.self.now.reader.now c.receive.new.reader c.receive.new.chunk _ c.receive.result
+      c.receive.ensures.bytes c.receive.ensures.ended c.receive.ensures.wasted;
 }
 
 pub returns-clause-same_readers : goal.returns-clause-same_readers
 returns-clause-same_readers g c = record {
   reader = refl;
   buffer = refl;
-  at_end = ends_read _ _ _ c.receive.new.chunk _ c.receive.result c.receive.ensures.bytes c.receive.ensures.ended c.receive.ensures.wasted;
+  at_end = ends_read g.R.Read.remaining c.args.self.now.reader.now c.receive.new.reader c.receive.new.chunk _ c.receive.result
+      c.receive.ensures.bytes c.receive.ensures.ended c.receive.ensures.wasted;
 }
