@@ -2,6 +2,10 @@ use Rattle.std.proofs.Common.{rules, arith, inl, inr, refl}
 use Rattle.git2show_lib.proofs.Printing.{announces_by, fed_failed, fed_more, fed_packet, gathers_none, left_length, shown_by, some_done}
 use Rattle.git2show_lib.proofs.shower.gather.Goals as goal
 
+pub returns-in-Failed-clause-gathers : goal.returns-in-Failed-clause-gathers
+returns-in-Failed-clause-gathers g c =
+    fed_failed _ c.loop-done.done c.loop-done.invariant.within c.feed-fed.follows.holds-at-none c.loop-done.invariant.gathers _ c.in-Failed.is
+
 pub loop-done-init : goal.loop-done-init
 loop-done-init g c = record {
   within = search rules;
@@ -22,5 +26,5 @@ loop-done-preserved g c =
       begun = λ e. absurd (omega (arith, e, announces.0));
       sound = announces.1;
       ready = feeds.gathers;
-      gathers = fed_packet _ c.loop-done.done at.within feeds at.gathers _ _ c.in-Packet.is c.put-in-Packet.ensures.put c.put-in-Packet.ensures.tally;
+      gathers = fed_packet _ c.loop-done.done at.within feeds at.gathers _ _ c.in-Packet.is c.put.ensures.put c.put.ensures.tally;
     }

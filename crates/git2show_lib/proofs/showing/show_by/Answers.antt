@@ -1,28 +1,36 @@
-use Rattle.std.proofs.Common.{rules, ◌≡◌, ◌<◌, ◌≤◌, [], ◌∷◌, Some, false, length, IsTrue, OnOk, IfErr, ℕ, ◌+◌, ◌-◌, ◌*◌, ◌/◌, ◌%◌, Bool, true, nat_eq, nat_lt, List, ◌++◌, slice_index_or, slice_set, bit_and, bit_or, Fits, w8, w32, w64, Bor, MutBor}
-use Rattle.std.specs.Io.KnownBytes.{IsAtEnd}
-use Rattle.git_pkt.specs.Machine.Recorded.{inner_of, reads_of, has_failed, has_ended, has_wasted, IsNew}
-use Rattle.git_pkt.specs.Machine.Engine.{FailsAs, IsShownBy, IsSpent}
-use Rattle.git_pkt.specs.Streams.{flow, is_broken, Moves}
-use Rattle.git2show_lib.specs.declared.views.RequestState.{RequestState}
-use Rattle.git2show_lib.specs.Machine.ShownStream.{Shows, ShowsRequests, ShowsView}
+use Rattle.std.proofs.Common.{sym, ◌∙◌}
+use Rattle.git_pkt.specs.Machine.Recorded.{has_ended}
+use Rattle.git2show_lib.proofs.Printing.{shows_at, shows_closed, shows_stopped}
 use Rattle.git2show_lib.proofs.showing.show_by.Goals as goal
 
--- src/showing.rt:104:5
 pub returns-in_err-ran-clause-shown : goal.returns-in_err-ran-clause-shown
-returns-in_err-ran-clause-shown g c = ?
+returns-in_err-ran-clause-shown g c =
+    rw c.tally.ensures (shows_at g.V.Renderer.view (g.V.Renderer.view c.args.renderer) c.args.tally.now c.new-shower.result c.run_to_the_end-ran.new.machine
+    (has_ended c.run_to_the_end-ran.new.reader) c.args.turns c.new-shower.ensures.shown c.new-shower.ensures.waits c.from_residual.result
+    c.in_err-ran.field-0.0 c.from_residual.ensures.1 c.in_err-ran.ensures.ran)
 
--- src/showing.rt:79:1
 pub returns-in-Some-clause-shown : goal.returns-in-Some-clause-shown
-returns-in-Some-clause-shown g c = ?
+returns-in-Some-clause-shown g c =
+    rw c.tally.ensures (shows_stopped g.V.Renderer.view (g.V.Renderer.view c.args.renderer) c.args.tally.now c.new-shower.result c.run_to_the_end-ran.new.machine
+    (has_ended c.run_to_the_end-ran.new.reader) c.args.turns c.new-shower.ensures.shown c.new-shower.ensures.waits c.in-Some.fault
+    c.in_ok-ran.ensures.ran (sym c.fault.ensures ∙ c.in-Some.is))
 
--- src/showing.rt:79:1
 pub returns-in-None-clause-ok : goal.returns-in-None-clause-ok
-returns-in-None-clause-ok g c = ?
+returns-in-None-clause-ok g c =
+    let shows = shows_closed g.V.Renderer.view (g.V.Renderer.view c.args.renderer) c.args.tally.now c.new-shower.result c.run_to_the_end-ran.new.machine
+    (has_ended c.run_to_the_end-ran.new.reader) c.args.turns c.new-shower.ensures.shown c.new-shower.ensures.waits
+    c.in_ok-ran.ensures.ran (sym c.fault.ensures ∙ c.in-None.is) in
+    shows.related.shows.ends.2
 
--- src/showing.rt:79:1
 pub returns-in-None-clause-end : goal.returns-in-None-clause-end
-returns-in-None-clause-end g c = ?
+returns-in-None-clause-end g c =
+    let shows = shows_closed g.V.Renderer.view (g.V.Renderer.view c.args.renderer) c.args.tally.now c.new-shower.result c.run_to_the_end-ran.new.machine
+    (has_ended c.run_to_the_end-ran.new.reader) c.args.turns c.new-shower.ensures.shown c.new-shower.ensures.waits
+    c.in_ok-ran.ensures.ran (sym c.fault.ensures ∙ c.in-None.is) in
+    c.run_to_the_end-ran.ensures.at_end shows.related.shows.ends.2
 
--- src/showing.rt:79:1
 pub returns-in-None-clause-shown : goal.returns-in-None-clause-shown
-returns-in-None-clause-shown g c = ?
+returns-in-None-clause-shown g c =
+    rw c.tally.ensures (shows_closed g.V.Renderer.view (g.V.Renderer.view c.args.renderer) c.args.tally.now c.new-shower.result c.run_to_the_end-ran.new.machine
+    (has_ended c.run_to_the_end-ran.new.reader) c.args.turns c.new-shower.ensures.shown c.new-shower.ensures.waits
+    c.in_ok-ran.ensures.ran (sym c.fault.ensures ∙ c.in-None.is))

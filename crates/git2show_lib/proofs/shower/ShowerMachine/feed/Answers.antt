@@ -5,12 +5,6 @@ use Rattle.git2show_lib.specs.declared.shower.Phase.TheVariants.{Stopped}
 use Rattle.git2show_lib.proofs.Printing.{reaches_used, used_some}
 use Rattle.git2show_lib.proofs.shower.ShowerMachine.feed.Goals as goal
 
-pub gather-gathered-requires-sound : goal.gather-gathered-requires-sound
-gather-gathered-requires-sound g c = c.requires.1.sound.sound c.requires.1.gathering
-
-pub gather-gathered-requires-gathers : goal.gather-gathered-requires-gathers
-gather-gathered-requires-gathers g c = c.requires.1.sound.gathers
-
 pub returns-in-Some-clause-some : goal.returns-in-Some-clause-some
 returns-in-Some-clause-some g c = λ some. inr (λ k. refl)
 
@@ -41,7 +35,7 @@ returns-in-None-clause-holds g c = record { sound = λ e. c.gather-gathered.ensu
 pub returns-in-None-clause-reaches : goal.returns-in-None-clause-reaches
 returns-in-None-clause-reaches g c =
     reaches_used g.V.Renderer.view c.args.self.now _ c.args.self.now.phase c.gather-gathered.ensures.gathers c.args.from c.requires.0
-    (λ over. subst (λ (p : Phase). StandsIn p _ over) (sym c.requires.1.gathering) (c.gather-gathered.ensures.fault ∙ c.in-None.is))
+    (λ over. subst (λ (p : Phase). StandsIn p c.gather-gathered.new.packets over) (sym c.requires.1.gathering) (c.gather-gathered.ensures.fault ∙ c.in-None.is))
 
 pub returns-in-None-clause-done : goal.returns-in-None-clause-done
 returns-in-None-clause-done g c = λ k done. done
