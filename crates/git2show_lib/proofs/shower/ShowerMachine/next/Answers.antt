@@ -28,16 +28,16 @@ returns-in-Gathering-clause-holds g c = record { sound = c.requires.sound; gathe
 
 pub returns-in-Gathering-clause-needs_input : goal.returns-in-Gathering-clause-needs_input
 returns-in-Gathering-clause-needs_input g c = λ from is. (
-      (
-        cc,
-        record {
-          gathering = c.in-Gathering.is;
-          all_given = c.lend.ensures.taken;
-          sound = record { sound = c.requires.sound; gathers = c.requires.gathers };
-        },
-      ),
-      stays g.V.Renderer.view c.args.self.now _ (c.lend.ensures.none c.if-lend.false).1,
-    )
+  (
+    cc,
+    record {
+      gathering = c.in-Gathering.is;
+      all_given = c.lend.ensures.taken;
+      sound = record { sound = c.requires.sound; gathers = c.requires.gathers };
+    },
+  ),
+  stays g.V.Renderer.view c.args.self.now _ (c.lend.ensures.none c.if-lend.false).1,
+)
 
 pub returns-in-Gathering-clause-done : goal.returns-in-Gathering-clause-done
 returns-in-Gathering-clause-done g c = λ k done. done
@@ -50,9 +50,9 @@ returns-in-Stopped-clause-holds g c = record { sound = c.requires.sound; gathers
 
 pub returns-in-Stopped-clause-finished : goal.returns-in-Stopped-clause-finished
 returns-in-Stopped-clause-finished g c = λ is. (
-      (ap is_over c.in-Stopped.is, c.lend.ensures.taken),
-      stays g.V.Renderer.view c.args.self.now _ (c.lend.ensures.none c.if-lend.false).1,
-    )
+  (ap is_over c.in-Stopped.is, c.lend.ensures.taken),
+  stays g.V.Renderer.view c.args.self.now _ (c.lend.ensures.none c.if-lend.false).1,
+)
 
 pub returns-in-Stopped-clause-done : goal.returns-in-Stopped-clause-done
 returns-in-Stopped-clause-done g c = λ k done. done
@@ -65,9 +65,9 @@ returns-in-Closed-clause-holds g c = record { sound = c.requires.sound; gathers 
 
 pub returns-in-Closed-clause-finished : goal.returns-in-Closed-clause-finished
 returns-in-Closed-clause-finished g c = λ is. (
-      (ap is_over c.in-Closed.is, c.lend.ensures.taken),
-      stays g.V.Renderer.view c.args.self.now _ (c.lend.ensures.none c.if-lend.false).1,
-    )
+  (ap is_over c.in-Closed.is, c.lend.ensures.taken),
+  stays g.V.Renderer.view c.args.self.now _ (c.lend.ensures.none c.if-lend.false).1,
+)
 
 pub returns-in-Closed-clause-done : goal.returns-in-Closed-clause-done
 returns-in-Closed-clause-done g c = λ k done. done
