@@ -5,30 +5,15 @@ use Rattle.git2show_lib.specs.declared.shower.Phase.TheVariants.{Closed, Stopped
 use Rattle.git2show_lib.proofs.Printing.{reaches_closed}
 use Rattle.git2show_lib.proofs.shower.ShowerMachine.close.Goals as goal
 
-pub returns-in-Ok-clause-holds : goal.returns-in-Ok-clause-holds
-returns-in-Ok-clause-holds g c = record { sound = λ e. absurd (cc); gathers = c.close.ensures.gathers }
-
 pub returns-in-Ok-clause-reaches : goal.returns-in-Ok-clause-reaches
 returns-in-Ok-clause-reaches g c =
     let between = c.in-Ok.ensures.between in
     reaches_closed g.V.Renderer.view c.args.self.now c.args.from _ Closed c.requires.0 c.close.ensures.carries
     (ap fault_of between.0 ∙ between.1, ap is_open between.0 ∙ between.2, refl)
 
-pub returns-in-Ok-clause-done : goal.returns-in-Ok-clause-done
-returns-in-Ok-clause-done g c = λ k done. refl
-
-pub returns-in-Ok-clause-short : goal.returns-in-Ok-clause-short
-returns-in-Ok-clause-short g c = λ reachable k short. absurd short.1
-
-pub returns-in-Err-clause-holds : goal.returns-in-Err-clause-holds
-returns-in-Err-clause-holds g c = record { sound = λ e. absurd (cc); gathers = c.close.ensures.gathers }
-
 pub returns-in-Err-clause-reaches : goal.returns-in-Err-clause-reaches
 returns-in-Err-clause-reaches g c =
     reaches_closed g.V.Renderer.view c.args.self.now c.args.from _ (Stopped _) c.requires.0 c.close.ensures.carries (c.in-Err.ensures.announced, λ e. refl)
-
-pub returns-in-Err-clause-done : goal.returns-in-Err-clause-done
-returns-in-Err-clause-done g c = λ k done. refl
 
 pub returns-in-Err-clause-short : goal.returns-in-Err-clause-short
 returns-in-Err-clause-short g c = λ reachable k short.
