@@ -1,5 +1,5 @@
 -- The escapes of bytes, appended a block at a time.
-use Rattle.std.proofs.Common.{arith, ◌≡◌, ℕ, ◌+◌, ◌*◌, ◌≤◌, List, [], ◌++◌, length, refl, sym, ap, ◌∙◌, append_assoc, append-nil}
+use Rattle.std.proofs.Common.{arith, ◌≡◌, ℕ, ◌+◌, ◌*◌, ◌≤◌, List, [], ◌++◌, length, sym, ap, ◌∙◌, append_assoc, append-nil}
 use Rattle.std.proofs.lemmas.List.{length-append, nil_from_length}
 use Rattle.git_pkt.specs.Escape.{escaped_of}
 use Rattle.git_pkt.proofs.Escapes.{escaped-append}

@@ -1,10 +1,9 @@
 -- What is shown of packets, call by call of a shower, and what a run of it means for its streams.
 use Rattle.std.proofs.Common.{◌≡◌, ◌≢◌, ◌⊎◌, inl, inr, ℕ, zero, suc, ◌+◌, ◌-◌, ◌<◌, ◌≤◌, Bool, true, false, List, [], ◌∷◌, ◌++◌, length, take, drop}
-use Rattle.std.proofs.Common.{IsSome, Option, Some, None, Result, Ok, Err, IsErrAnd, IfErr, OnOk, arith, ap, sym, ◌∙◌, refl, subst}
+use Rattle.std.proofs.Common.{IsSome, Option, Some, None, Result, Ok, Err, IsErrAnd, arith, ap, sym, ◌∙◌, refl, subst}
 use Rattle.std.proofs.Common.{append_assoc, append-nil, length-drop, zero-add}
-use Rattle.std.proofs.Math.Seq.{take-length}
 use Rattle.git_pkt.specs.Splits.{Given}
-use Rattle.git_pkt.specs.Machine.PacketReader.{Reads, ReadsOn, StandsAt, Feeds, Announces, ShownByFeed, fault_of, given_by, is_open}
+use Rattle.git_pkt.specs.Machine.PacketReader.{Reads, ReadsOn, StandsAt, Feeds, Announces, ShownByFeed, fault_of, given_by}
 use Rattle.git_pkt.proofs.KnownRest.{none_between}
 use Rattle.git_pkt.specs.Packets.{seen}
 use Rattle.git_pkt.specs.declared.packet.Packet.{Packet}
@@ -21,7 +20,7 @@ use Rattle.git_pkt.specs.declared.fault.RunFault.TheVariants.{ReadFault, WriteFa
 use Rattle.git_pkt.specs.declared.reader.PacketReader.{PacketReader}
 use Rattle.git_pkt.proofs.EngineLemmas.{AppendsFront-longer, at_fault}
 use Rattle.git_loop.specs.Machines.{GivesPart, HasFinished, Ran, RunStates}
-use Rattle.git_loop.specs.Moves.{Move, closed, gave, used, ended_after, given_to, used_of}
+use Rattle.git_loop.specs.Moves.{closed, gave, used, ended_after, given_to, used_of}
 use Rattle.git2show_lib.specs.PacketLines.{line_of, lines_of}
 use Rattle.git2show_lib.specs.PacketViews.{after, shown, tally_of, viewed}
 use Rattle.git2show_lib.specs.declared.views.Tally.{Tally}

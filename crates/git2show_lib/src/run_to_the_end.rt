@@ -1,6 +1,6 @@
 //! A machine run over a reader, until that has ended.
 
-ghost use Rattle.std.specs.Prelude.{◌≡◌, ◌≤◌, ◌<◌, ◌∷◌, ℕ, [], length, false, IsTrue, IfErr};
+ghost use Rattle.std.specs.Prelude.{◌≡◌, ◌≤◌, ◌<◌, ℕ, [], length, false, IsTrue, IfErr};
 ghost use Rattle.git_pkt.specs.Machine.Engine.{FailsAs, IsShownBy, IsSpent};
 ghost use Rattle.git_pkt.specs.Machine.Recorded.{reads_of, has_failed, has_wasted, IsNew};
 ghost use Rattle.git_loop.specs.Machines.{RanOne};

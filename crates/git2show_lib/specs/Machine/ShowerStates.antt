@@ -1,6 +1,6 @@
 -- The states of a shower in a run, and the laws that join its calls.
 use Rattle.std.specs.Prelude.{◌≡◌, ℕ, Bool, true, false, List, [], ◌++◌, Option, Some, None}
-use Rattle.std.proofs.Common.{refl, sym, ap, ◌∙◌, append_assoc, append-nil, subst}
+use Rattle.std.proofs.Common.{sym, ap, ◌∙◌, append_assoc, append-nil, subst}
 use Rattle.git_loop.specs.Moves.{Move, ended_after, given_to, used_of, ended_after-append, given_to-append, used_of-append}
 use Rattle.git_pkt.specs.Splits.{Given}
 use Rattle.git_pkt.specs.Machine.PacketReader.{Reads, ReadsOn, fault_of, is_open, passes_of}

@@ -1,5 +1,5 @@
 use Rattle.std.proofs.Common.{rules, ◌∙◌, ◌+◌, ◌*◌, length}
-use Rattle.git2show_lib.proofs.LinesEscaped.{escaped_all, escaped_more, escaped_none, still_within}
+use Rattle.git2show_lib.proofs.LinesEscaped.{escaped_more, escaped_none, still_within}
 use Rattle.git2show_lib.proofs.lines.write_escaped.Goals as goal
 
 pub loop-run-init : goal.loop-run-init

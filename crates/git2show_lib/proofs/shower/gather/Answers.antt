@@ -1,5 +1,5 @@
-use Rattle.std.proofs.Common.{rules, arith, inl, inr, refl}
-use Rattle.git2show_lib.proofs.Printing.{announces_by, fed_failed, fed_more, fed_packet, gathers_none, left_length, shown_by, some_done}
+use Rattle.std.proofs.Common.{rules, arith, refl}
+use Rattle.git2show_lib.proofs.Printing.{announces_by, fed_failed, fed_packet, gathers_none, left_length}
 use Rattle.git2show_lib.proofs.shower.gather.Goals as goal
 
 pub returns-in-Failed-clause-gathers : goal.returns-in-Failed-clause-gathers

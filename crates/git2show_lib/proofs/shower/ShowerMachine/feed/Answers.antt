@@ -1,4 +1,4 @@
-use Rattle.std.proofs.Common.{arith, inl, inr, sym, ◌∙◌, refl, subst}
+use Rattle.std.proofs.Common.{arith, inl, sym, ◌∙◌, subst}
 use Rattle.git2show_lib.specs.Machine.ShowerStates.{StandsIn, waits_in_time}
 use Rattle.git2show_lib.specs.declared.shower.Phase.{Phase}
 use Rattle.git2show_lib.specs.declared.shower.Phase.TheVariants.{Stopped}

@@ -1,5 +1,4 @@
-use Rattle.std.proofs.Common.{◌∙◌, ap}
-use Rattle.git2show_lib.specs.Machine.HeldLines.{HeldLines}
+use Rattle.std.proofs.Common.{ap}
 use Rattle.git2show_lib.specs.Machine.ShowerStates.{is_over}
 use Rattle.git2show_lib.proofs.Printing.{gives_part, stays}
 use Rattle.git2show_lib.proofs.shower.ShowerMachine.next.Goals as goal
