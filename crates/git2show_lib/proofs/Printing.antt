@@ -1,15 +1,15 @@
 -- What is shown of packets, call by call of a shower, and what a run of it means for its streams.
-use Rattle.std.proofs.Common.{◌≡◌, ◌≢◌, ◌⊎◌, inl, inr, ℕ, zero, suc, ◌+◌, ◌-◌, ◌<◌, ◌≤◌, Bool, true, false, List, [], ◌∷◌, ◌++◌, length, take, drop}
+use Rattle.std.proofs.Common.{◌≡◌, ◌≢◌, ◌⊎◌, inl, inr, ℕ, ◌+◌, ◌-◌, ◌<◌, ◌≤◌, Bool, true, false, List, [], ◌∷◌, ◌++◌, length, take, drop}
 use Rattle.std.proofs.Common.{IsSome, Option, Some, None, Result, Ok, Err, IsErrAnd, arith, ap, sym, ◌∙◌, refl, subst}
 use Rattle.std.proofs.Common.{append_assoc, append-nil, length-drop, zero-add}
 use Rattle.git_pkt.specs.Splits.{Given}
-use Rattle.git_pkt.specs.Machine.PacketReader.{Reads, ReadsOn, StandsAt, Feeds, Announces, ShownByFeed, fault_of, given_by}
+use Rattle.git_pkt.specs.Machine.PacketReader.{Reads, ReadsOn, StandsAt, Feeds, Announces, fault_of, given_by}
 use Rattle.git_pkt.proofs.KnownRest.{none_between}
 use Rattle.git_pkt.specs.Packets.{seen}
 use Rattle.git_pkt.specs.declared.packet.Packet.{Packet}
 use Rattle.git_pkt.specs.declared.reader.Fed.{Fed}
 use Rattle.git_pkt.specs.declared.reader.Got.{Got}
-use Rattle.git_pkt.specs.declared.reader.Got.TheVariants.{More, Failed, Packet as GotPacket}
+use Rattle.git_pkt.specs.declared.reader.Got.TheVariants.{Failed, Packet as GotPacket}
 use Rattle.git_pkt.proofs.Chunks.{take_joined, left_of}
 use Rattle.git_pkt.specs.Streams.{Flow, AreWritten, IsTimely, WrittenAs, Moves, is_broken}
 use Rattle.git_pkt.specs.declared.fault.Kind.{Kind}
@@ -117,22 +117,11 @@ module _ {b c : PacketReader} (chunk : List ℕ) (done : ℕ) {fed : Fed} (withi
   pub left_length : length (left chunk done) ≡ length chunk - done
   left_length = ap length (left_of chunk done within) ∙ length-drop done chunk
 
-  pub shown_by : (f : Fault) → fault_of b ≡ None → fed.got ≡ Failed f → ShownByFeed f (done + fed.used) chunk
-  shown_by f sound is =
-      let shown = feeds.news f sound is in
-      record { not_the_end = shown.not_the_end; one_more = λ e. omega (arith, shown.one_more e, left_length) }
-
   module _ {view : Option View} {start middle : Tally} {old : PacketReader} {before w : List ℕ}
       (so_far : Gathers view start middle old b (take done chunk) before w) where
     pub fed_failed : (f : Fault) → fed.got ≡ Failed f → Gathers view start middle old c (take (done + fed.used) chunk) before w
     fed_failed f is =
         rw (take_joined chunk done fed.used within) at (gathers_quiet c (take fed.used (left chunk done)) so_far (reads_by (Failed f) is))
-
-    pub fed_more : fed.got ≡ More → Gathers view start middle old c (take (length chunk) chunk) before w
-    fed_more is =
-        let announces = announces_by More is in
-        let all : done + fed.used ≡ length chunk = omega (arith, announces.0, left_length, within) in
-        rw (take_joined chunk done fed.used within, all) at (gathers_quiet c (take fed.used (left chunk done)) so_far (reads_by More is))
 
     pub fed_packet : (p : Packet) (offset : ℕ) {final : Tally} {x : List ℕ} → fed.got ≡ GotPacket p offset
         → x ≡ w ++ viewed view middle (record { packet = seen p; offset = offset })
@@ -141,11 +130,6 @@ module _ {b c : PacketReader} (chunk : List ℕ) (done : ℕ) {fed : Fed} (withi
     fed_packet p offset is line counts =
         rw (take_joined chunk done fed.used within) at (gathers_packet c (take fed.used (left chunk done)) (record { packet = seen p; offset = offset })
         so_far (reads_by (GotPacket p offset) is) line counts)
-
--- what was not used has to be one byte, or more
-pub some_done : (done : ℕ) → (done ≡ 0 → ⊥) → 0 < done
-some_done zero none = absurd (none refl)
-some_done (suc n) none = omega arith
 
 -- ---- the calls of a shower
 
