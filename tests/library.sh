@@ -283,11 +283,12 @@ case_manual_page_has_each_option() {
     local command option
     for command in show check serve fetch play; do
         sed -n "/^\.SS git2show $command/,/^\.S/p" "$installed/share/man/man1/git2show.1" | sed 's/\\-/-/g' > part
-        git2show "$command" --help | grep -o -e '--[a-z]*' | sort -u > options
+        grep -o -E -e '--[a-z]+(-[a-z]+)*' part | sort -u > described
+        git2show "$command" --help | grep -o -E -e '--[a-z]+(-[a-z]+)*' | grep -v -x -e --help | sort -u > options
         [ -s options ] || differs "no option of $command"
         while read -r option; do
-            [ "$option" = --help ] || grep -q -e "$option" part || differs "a part on $command without $option" part
-        done < options
+            differs "a part on $command without $option" part
+        done < <(comm -23 options described)
     done
     is_well_written man1/git2show.1
 }
@@ -343,7 +344,6 @@ case_library_calls_tell_what_the_header_says() {
     done
 }
 
-# The program prints how often each kind of handle asks for memory, and each that breaks off: once at the least.
 # reads_alike PROGRAM FORMAT ENDING NAME: that single calls and those that fill an array read a recorded conversation alike.
 reads_alike() {
     run "$1" "$2" "$3" "$4-requests.pkt" "$4-responses.pkt"
@@ -382,6 +382,7 @@ case_library_takes_the_memory_of_its_program() {
     expect 0 /dev/null /dev/null
 }
 
+# The program prints how often each kind of handle asks for memory, and each that breaks off: once at the least.
 case_library_frees_all_where_memory_is_refused() {
     run refused_memory-watched
     expect_status 0

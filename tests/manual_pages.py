@@ -16,7 +16,7 @@ PROTOTYPE = re.compile(r"^[a-z_0-9 ]*?[ *]+(gitwire_[a-z_0-9]+)\([^;{]*\);", re.
 
 def prototypes(text):
     """The calls of a text with their prototypes, each on one line."""
-    return [(found[1], " ".join(found[0].split())) for found in PROTOTYPE.finditer(text)]
+    return [(found[1], " ".join(found[0].split()).replace("( ", "(")) for found in PROTOTYPE.finditer(text)]
 
 
 def of_headers(folder):
