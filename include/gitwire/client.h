@@ -125,7 +125,8 @@ gitwire_event gitwire_client_feed(gitwire_client *client, const uint8_t *chunk, 
  * Reads on, and fills the array with the events: what gitwire_client_feed would return for them, call after call, but for
  * `used`, which counts from the chunk's beginning up to the event's end, and for `offset`, which is where its parts begin: in
  * the chunk for PACK and PROGRESS, and for other events in the buffer, where they lie one after another. `length` is how many
- * events there are, `used` how many bytes of the chunk were used.
+ * events there are, `used` how many bytes of the chunk were used. Set the array to zeros before the first call: each bool in it
+ * has to be 0 or 1.
  *
  * MORE: the chunk is used up; or the array is full, or fewer than GITWIRE_PAYLOAD_SIZE bytes of the buffer are left, and the
  * call is to be made again with the other bytes. CAN_ASK: the last event is the end of the advertisement or of a response,

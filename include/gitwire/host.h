@@ -11,7 +11,7 @@
  *     ENDED_BY_FLUSH, ENDED_BY_CLOSE, FAILED: the session is over
  *
  * A call that reports returns PACKET, with `length` bytes in the buffer to be sent now, or MORE: there is nothing to send yet. It is allowed when
- * a pull would return what it is named after, and otherwise returns NOT_NOW: so no order of calls gives a wrong answer. No pull is needed between
+ * a pull would return the NEED_.. that it answers, and otherwise returns NOT_NOW: so no order of calls gives a wrong answer. No pull is needed between
  * two reports of references, of objects or of bytes of a pack; a line of the boundary may come after a header, and then it is to be pulled; and
  * a pull comes between the report of the last want and the next report, gitwire_host_fail too. A report may differ from that for an earlier
  * request of the session. Once the packet of a report was returned, the server keeps of it only the
@@ -111,7 +111,7 @@ gitwire_answer gitwire_host_pack_end(gitwire_host *host, uint8_t *buffer, size_t
  * For `ls-refs`: any reference of the store, in the order of the bytes of their names. PACKET if the request asks for it, else MORE. A target or a
  * peeled object of length 0 is none. Parts are checked from left to right: BadObjectName, BadRefName. OUT_OF_ORDER if its name does not come after
  * that of the one before it, or it is a `HEAD` that was reported as unborn. OUT_OF_MEMORY. The target of an unborn `HEAD` is reported before any
- * reference. The end of the references: PACKET, the flush that ends the answer.
+ * reference, once: after that NOT_NOW. The end of the references: PACKET, the flush that ends the answer.
  */
 GITWIRE_LOOKED_AT
 gitwire_answer gitwire_host_reference(gitwire_host *host, const char *id, size_t id_length, const char *name, size_t name_length,
