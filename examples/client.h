@@ -86,7 +86,7 @@ static const char *text_of(gitwire_answer answer)
 }
 
 /* Reports on standard error what happened to a client, unless the write would wait for a reader. */
-static void tell(const char *what, const char *why)
+static void report(const char *what, const char *why)
 {
 	struct pollfd errors = { .fd = STDERR_FILENO, .events = POLLOUT };
 
@@ -113,7 +113,7 @@ static void put_error(struct client *c, const char *why)
 /* Makes an error packet the last that is sent. */
 static void refuse(struct client *c, const char *why)
 {
-	tell("refused: ", why);
+	report("refused: ", why);
 	put_error(c, why);
 	c->phase = ENDING;
 }
@@ -121,7 +121,7 @@ static void refuse(struct client *c, const char *why)
 /* Closes a client whose session is not over, and sends it the reason, unless bytes still wait to be sent: they may end inside a packet. */
 static void dismiss(struct client *c, const char *what, const char *why)
 {
-	tell(what, "");
+	report(what, "");
 	if (c->out_end == 0 && c->phase != LEAVING) {
 		put_error(c, why);
 		send(c->connection, c->out, c->out_end, 0);
@@ -165,7 +165,7 @@ static void see_off(struct client *c)
 		return;
 	snprintf(status, sizeof status, "%d", WIFEXITED(ended) ? WEXITSTATUS(ended) : 128 + WTERMSIG(ended));
 	if (ended != 0)
-		tell("upload-pack ended with status ", status);
+		report("upload-pack ended with status ", status);
 	c->phase = NOBODY;
 }
 
@@ -221,7 +221,7 @@ static bool is_error(const uint8_t *packet, size_t length)
 /* Ends a session that was refused. An error packet of the client is not answered with another. */
 static void end_refused(struct client *c, gitwire_answer answer)
 {
-	tell("a session ended with ", text_of(answer));
+	report("a session ended with ", text_of(answer));
 	if (answer.fault != GITWIRE_FAULT_REMOTE_ERROR)
 		put_error(c, text_of(answer));
 	c->phase = ENDING;

@@ -44,12 +44,12 @@ static int ask_next(struct fetch *fetch)
 		return -1;
 	}
 	if (fetch->next == GET && fetch->id[0] == '\0')
-		return tell("no such reference");
+		return report("no such reference");
 	if (make_request(fetch, &request))
 		answer = gitwire_client_ask(fetch->client, request);
 	gitwire_request_free(request); /* the client has what it asks */
 	if (answer.kind == GITWIRE_NOTHING)
-		return tell("a reference that cannot be asked for");
+		return report("a reference that cannot be asked for");
 	fetch->next = fetch->next == LIST ? GET : LEAVE;
 	return answer.kind == GITWIRE_DONE ? -1 : refuse(fetch->client, answer);
 }
@@ -104,7 +104,7 @@ static int converse(struct fetch *fetch)
 				return 1;
 			event = gitwire_client_feed(fetch->client, chunk, chunk_length, buffer, sizeof buffer);
 			if (!take(fetch, &event))
-				return tell("the pack cannot be written");
+				return report("the pack cannot be written");
 			chunk += event.used;
 			chunk_length -= event.used;
 			break;
@@ -123,18 +123,18 @@ static int fetch_into(struct fetch *fetch, char *folder, const char *name)
 	int status;
 
 	if (gitwire_client_new(&fetch->client, GITWIRE_FORMAT_ANY, GITWIRE_ENDS_BY_FLUSH) != GITWIRE_DONE)
-		return tell("no memory");
+		return report("no memory");
 	fetch->pack = fopen(name, "wb");
 	if (fetch->pack == NULL)
-		return tell("the pack cannot be opened");
+		return report("the pack cannot be opened");
 	if (start_server(folder)) {
 		status = converse(fetch);
 		end_server();
 	} else {
-		status = tell("no server");
+		status = report("no server");
 	}
 	if (fclose(fetch->pack) != 0 && status == 0)
-		status = tell("the pack cannot be written");
+		status = report("the pack cannot be written");
 	return status;
 }
 
@@ -151,6 +151,6 @@ int main(int count, char **words)
 	status = fetch_into(&fetch, words[1], words[3]);
 	gitwire_client_free(fetch.client);
 	if (status == 0 && (puts(fetch.id) < 0 || fflush(stdout) != 0))
-		status = tell("the output cannot be written");
+		status = report("the output cannot be written");
 	return status;
 }

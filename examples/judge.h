@@ -71,7 +71,7 @@ static void end_judge(struct judge *judge)
  * What is expected next: CAN_ASK if it is the client's turn, NEED_INPUT if it is the server's, FINISHED if the client has left. The packets
  * of a request are dropped here: the watched client's own packets go on, as it wrote them.
  */
-static gitwire_result due(struct judge *judge)
+static gitwire_result expected(struct judge *judge)
 {
 	gitwire_answer answer;
 
@@ -237,7 +237,6 @@ static gitwire_answer judge_last_request(struct judge *judge, uint64_t end)
 
 	if (judge->part != BETWEEN_REQUESTS)
 		return refusal(GITWIRE_FAULT_TRUNCATED, end);
-
 	if (answer.kind == GITWIRE_DONE)
 		gitwire_client_leave(judge->client);
 	return answer;
@@ -321,7 +320,7 @@ static gitwire_answer feed_client(struct judge *judge, struct packet packet)
 {
 	size_t used = 0;
 
-	while (used < packet.length && due(judge) == GITWIRE_NEED_INPUT) {
+	while (used < packet.length && expected(judge) == GITWIRE_NEED_INPUT) {
 		gitwire_event event = gitwire_client_feed(judge->client, packet.bytes + used, packet.length - used, buffer, sizeof buffer);
 
 		if (event.kind == GITWIRE_FAILED)
@@ -395,7 +394,7 @@ static gitwire_answer judge_response(struct judge *judge, struct packet packet)
 {
 	bool is_line = !is_special(packet, '0') && !is_special(packet, '1') && !is_special(packet, '2');
 
-	if (due(judge) != GITWIRE_NEED_INPUT)
+	if (expected(judge) != GITWIRE_NEED_INPUT)
 		return refusal(GITWIRE_FAULT_REMOTE_ERROR, packet.offset);
 	if (judge->passes)
 		return pass_response(judge, packet);
@@ -419,7 +418,7 @@ static gitwire_answer judge_last_response(struct judge *judge, uint64_t end)
 }
 
 /* Whether a packet reports an error to the other side, and so has to reach it. */
-static bool tells_an_error(gitwire_answer answer)
+static bool reports_an_error(gitwire_answer answer)
 {
 	return answer.fault == GITWIRE_FAULT_REMOTE_ERROR || answer.fault == GITWIRE_FAULT_REMOTE_FATAL;
 }

@@ -105,16 +105,16 @@ int main(int count, char **words)
 	}
 	fault = make_request(&request, format, words + 1);
 	if (fault == GITWIRE_FAULT_OUT_OF_MEMORY || gitwire_client_new(&client, format, GITWIRE_ENDS_BY_FLUSH) != GITWIRE_DONE) {
-		status = tell("no memory");
+		status = report("no memory");
 	} else if (fault != 0) {
-		status = tell("a prefix is too long");
+		status = report("a prefix is too long");
 	} else if (!start_server(*words)) {
-		status = tell("no server");
+		status = report("no server");
 	} else {
 		status = converse(client, request);
 		end_server();
 	}
 	gitwire_request_free(request);
 	gitwire_client_free(client);
-	return fflush(stdout) != 0 || ferror(stdout) ? tell("the output cannot be written") : status;
+	return fflush(stdout) != 0 || ferror(stdout) ? report("the output cannot be written") : status;
 }

@@ -2,9 +2,9 @@
  * Lists the packets of standard input, a line for each, as `git2show show` does: its offset, its kind, and the length and bytes of its
  * payload. The first malformed packet is reported by name and offset, and ends it.
  *
- *     packets [PIECE]
+ *     packets [BYTES]
  *
- * PIECE is how many bytes are read at a time: at most 65,536, which is the default.
+ * BYTES is how many bytes are read at a time: at most 65,536, which is the default.
  */
 #include <gitwire.h>
 
@@ -37,7 +37,7 @@ static void show(const gitwire_answer *packet, const uint8_t *payload)
 	}
 }
 
-static int tell(const char *what)
+static int report(const char *what)
 {
 	fprintf(stderr, "packets: %s\n", what);
 	return 1;
@@ -71,7 +71,7 @@ static int list(gitwire_packet_reader *reader, size_t most)
 		}
 	}
 	if (ferror(stdin))
-		return tell("the input cannot be read");
+		return report("the input cannot be read");
 	answer = gitwire_packet_reader_close(reader);
 	return answer.kind == GITWIRE_DONE ? 0 : refuse(answer);
 }
@@ -91,12 +91,12 @@ int main(int count, char **words)
 	gitwire_packet_reader *reader;
 
 	if (most < 1 || most > MOST_BYTES) {
-		fputs("usage: packets [PIECE]\n", stderr);
+		fputs("usage: packets [BYTES]\n", stderr);
 		return 2;
 	}
 	if (gitwire_packet_reader_new(&reader) != GITWIRE_DONE)
-		return tell("no memory");
+		return report("no memory");
 	int status = list(reader, most);
 	gitwire_packet_reader_free(reader);
-	return fflush(stdout) != 0 || ferror(stdout) ? tell("the output cannot be written") : status;
+	return fflush(stdout) != 0 || ferror(stdout) ? report("the output cannot be written") : status;
 }

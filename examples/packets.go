@@ -136,7 +136,7 @@ func main() {
 		most, err = strconv.Atoi(os.Args[1])
 	}
 	if err != nil || most < 1 || most > mostBytes {
-		fmt.Fprintln(os.Stderr, "usage: packets [PIECE]")
+		fmt.Fprintln(os.Stderr, "usage: packets [BYTES]")
 		os.Exit(2)
 	}
 	if err := run(most); err != nil {

@@ -1,9 +1,9 @@
 #!/usr/bin/env python3
 """Lists the packets of standard input, as packets.c does, from Python, through ctypes and the shared library:
 
-    LD_LIBRARY_PATH=PREFIX/lib packets.py [PIECE]
+    LD_LIBRARY_PATH=PREFIX/lib packets.py [BYTES]
 
-PIECE is how many bytes are read at a time: at most 65,536, which is the default. LD_LIBRARY_PATH is not needed if the library is in
+BYTES is how many bytes are read at a time: at most 65,536, which is the default. LD_LIBRARY_PATH is not needed if the library is in
 a folder that the system's loader knows.
 """
 
@@ -119,11 +119,11 @@ def number_of(word):
 
 
 def main():
-    """Answers the program's status. Where nobody reads its output it ends, as other programs do."""
+    """Returns the program's status. Where nobody reads its output it ends, as other programs do."""
     signal.signal(signal.SIGPIPE, signal.SIG_DFL)
     most = number_of(sys.argv[1]) if len(sys.argv) > 1 else MOST_BYTES
     if not 1 <= most <= MOST_BYTES:
-        print("usage: packets [PIECE]", file=sys.stderr)
+        print("usage: packets [BYTES]", file=sys.stderr)
         return 2
     try:
         with PacketReader(load_library()) as reader:

@@ -152,7 +152,7 @@ fn main() -> io::Result<ExitCode> {
     let word = std::env::args().nth(1);
     let most = word.map_or(Some(MOST_BYTES), |word| word.parse().ok());
     let Some(most) = most.filter(|most| (1..=MOST_BYTES).contains(most)) else {
-        eprintln!("usage: packets [PIECE]");
+        eprintln!("usage: packets [BYTES]");
         return Ok(ExitCode::from(2));
     };
     let Some(mut reader) = PacketReader::new() else {

@@ -6,7 +6,7 @@
 /* As `git2show` shows them. */
 static void show_bytes(FILE *to, const void *bytes, size_t length)
 {
-	const uint8_t *rest = bytes;
+	const uint8_t *rest = (const uint8_t *)bytes;
 	char shown[4096];
 
 	while (length > 0) {

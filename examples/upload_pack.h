@@ -18,7 +18,7 @@ static const uint8_t *chunk;                /* the bytes of the server that are 
 static size_t chunk_length;
 static uint8_t buffer[GITWIRE_PACKET_SIZE]; /* where the library writes */
 
-static int tell(const char *what)
+static int report(const char *what)
 {
 	fprintf(stderr, PROGRAM ": %s\n", what);
 	return 1;
@@ -77,7 +77,7 @@ static bool write_packet(size_t length)
 	for (size_t at = 0; at < length; at += (size_t)count) {
 		count = write(to_server, buffer + at, length - at);
 		if (count <= 0)
-			return !tell("the server cannot be written to");
+			return !report("the server cannot be written to");
 	}
 	return true;
 }
@@ -92,7 +92,7 @@ static bool read_chunk(gitwire_client *client)
 		return true;
 	count = read(from_server, bytes, sizeof bytes);
 	if (count < 0)
-		tell("the server cannot be read from");
+		report("the server cannot be read from");
 	else if (count == 0)
 		refuse(client, gitwire_client_close(client));
 	chunk = bytes;

@@ -37,7 +37,7 @@ static struct stream requests = { .name = "requests", .from = STDIN_FILENO };
 static struct stream responses = { .name = "responses", .to = STDOUT_FILENO };
 static struct judge judge;
 
-static int tell(const char *what)
+static int report(const char *what)
 {
 	fprintf(stderr, "watch: %s\n", what);
 	return 1;
@@ -84,7 +84,7 @@ static bool pass_on(struct stream *stream)
 static bool has_turn(const struct stream *stream)
 {
 	const uint8_t *text = stream->bytes + stream->judged + 4;
-	gitwire_result next = due(&judge);
+	gitwire_result next = expected(&judge);
 
 	if (stream == &requests)
 		return next == GITWIRE_CAN_ASK;
@@ -97,7 +97,7 @@ static gitwire_answer judge_packet(struct stream *stream)
 	struct packet packet = { stream->bytes + stream->judged, stream->read - stream->judged, stream->offset };
 	gitwire_answer answer = stream == &requests ? judge_request(&judge, packet) : judge_response(&judge, packet);
 
-	if (answer.kind != GITWIRE_FAILED || tells_an_error(answer)) {
+	if (answer.kind != GITWIRE_FAILED || reports_an_error(answer)) {
 		stream->judged = stream->read;
 		stream->offset += packet.length;
 	}
@@ -119,7 +119,7 @@ static gitwire_answer judge_packets(struct stream *stream)
 		if (answer.kind == GITWIRE_FAILED)
 			return answer;
 	}
-	if (stream == &responses && stream->read < stream->end && due(&judge) == GITWIRE_FINISHED)
+	if (stream == &responses && stream->read < stream->end && expected(&judge) == GITWIRE_FINISHED)
 		return refusal(GITWIRE_FAULT_UNEXPECTED_PACKET, stream->offset);
 	return answer;
 }
@@ -145,7 +145,7 @@ static gitwire_answer judge_stream(struct stream *stream)
 }
 
 /* Reports to the client, where its user sees it, why the conversation ends: inside a pack on a side band, otherwise in an error packet. */
-static void tell_client(const char *text, size_t length)
+static void report_to_client(const char *text, size_t length)
 {
 	gitwire_writer *writer;
 	gitwire_answer answer;
@@ -157,8 +157,18 @@ static void tell_client(const char *text, size_t length)
 	else
 		answer = gitwire_put_error(writer, text, length, buffer, sizeof buffer);
 	if (answer.kind == GITWIRE_DONE && write(responses.to, buffer, answer.length) < 0)
-		tell("the client is gone");
+		report("the client is gone");
 	gitwire_writer_free(writer);
+}
+
+/* Passes on all that may go on, as long as somebody reads it. */
+static void pass_all_on(struct stream *stream)
+{
+	struct pollfd ready = { .fd = stream->to, .events = POLLOUT };
+
+	while (stream->to >= 0 && stream->sent < stream->judged)
+		if ((poll(&ready, 1, -1) < 0 && errno != EINTR) || !pass_on(stream))
+			return;
 }
 
 /* Ends the conversation: what was judged goes on, and so does an error that one side sent to the other. */
@@ -169,12 +179,11 @@ static int refuse(struct stream *stream, gitwire_answer answer)
 
 	fflush(judge.transcript);
 	fprintf(stderr, "watch: %s: %.*s\n", stream->name, (int)length, text);
-	while (responses.sent < responses.judged && pass_on(&responses))
-		continue;
-	if (!tells_an_error(answer))
-		tell_client(text, length);
-	while (tells_an_error(answer) && requests.sent < requests.judged && pass_on(&requests))
-		continue;
+	pass_all_on(&responses);
+	if (reports_an_error(answer))
+		pass_all_on(&requests);
+	else
+		report_to_client(text, length);
 	return 1;
 }
 
@@ -198,7 +207,7 @@ static void close_server(void)
 /* Whether the server has ended, nothing more was expected of it, and everything that it sent has gone on. */
 static bool is_over(void)
 {
-	return responses.from < 0 && responses.end == 0 && due(&judge) != GITWIRE_NEED_INPUT;
+	return responses.from < 0 && responses.end == 0 && expected(&judge) != GITWIRE_NEED_INPUT;
 }
 
 /* Passes on what both send until the server ends. Returns the exit status. */
@@ -216,13 +225,13 @@ static int watch(void)
 			return refuse(&responses, answer);
 		if (is_over())
 			return 0;
-		if (requests.to < 0 || (requests.sent == requests.judged && due(&judge) == GITWIRE_FINISHED))
+		if (requests.to < 0 || (requests.sent == requests.judged && expected(&judge) == GITWIRE_FINISHED))
 			close_server();
 		await(&requests, polled);
 		await(&responses, polled + 2);
 		fflush(judge.transcript);
 		if (poll(polled, 4, -1) < 0 && errno != EINTR)
-			return tell(strerror(errno));
+			return report(strerror(errno));
 		if (polled[0].revents)
 			take_in(&requests);
 		if (polled[1].revents && !pass_on(&requests))
@@ -230,7 +239,7 @@ static int watch(void)
 		if (polled[2].revents)
 			take_in(&responses);
 		if (polled[3].revents && !pass_on(&responses))
-			return tell("the client is gone");
+			return report("the client is gone");
 	}
 }
 
@@ -241,7 +250,7 @@ static int watch_server(char **command)
 	int status;
 
 	if (server < 0)
-		return tell("no server");
+		return report("no server");
 	status = watch();
 	close_server();
 	if (responses.from >= 0)
@@ -272,18 +281,18 @@ int main(int count, char **words)
 		return 2;
 	}
 	if (name != NULL && (transcript = fopen(name, "w")) == NULL)
-		return tell("the transcript cannot be opened");
+		return report("the transcript cannot be opened");
 	setvbuf(transcript, NULL, _IOFBF, BUFSIZ); /* it is flushed before each wait */
 	if (!begin_judge(&judge, format, transcript) || gitwire_packet_reader_new(&requests.packets) != GITWIRE_DONE
 		|| gitwire_packet_reader_new(&responses.packets) != GITWIRE_DONE)
-		status = tell("no memory");
+		status = report("no memory");
 	else
 		status = watch_server(words + at);
 	end_judge(&judge);
 	gitwire_packet_reader_free(requests.packets);
 	gitwire_packet_reader_free(responses.packets);
 	if (fflush(transcript) != 0 || ferror(transcript))
-		status = tell("the transcript cannot be written");
+		status = report("the transcript cannot be written");
 	if (name != NULL)
 		fclose(transcript);
 	return status;

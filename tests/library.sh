@@ -421,7 +421,7 @@ lists_as_show() {
     done
     for piece in 0 65537 5x x ''; do
         run "$@" "$piece" < /dev/null
-        expect 2 /dev/null <(echo 'usage: packets [PIECE]')
+        expect 2 /dev/null <(echo 'usage: packets [BYTES]')
     done
 }
 

@@ -74,16 +74,18 @@ static void expect(bool holds, const char *what)
 	printf("request %ld for memory refused%s: %s\n", refused_at, refused_after ? ", and all after it" : "", what);
 }
 
-/* Whether a call set a handle, or reported that memory was refused: then it kept no memory, and set the handle to NULL. */
-#define IS_MADE(handle, call, what) is_made(live, call, &(handle), what)
+static long live_before; /* how many blocks were allocated before the call that is judged */
 
-static bool is_made(long before, gitwire_result answer, void *handle, const char *what)
+/* Whether a call set a handle, or reported that memory was refused: then it kept no memory, and set the handle to NULL. */
+#define IS_MADE(handle, call, what) (live_before = live, is_made(call, &(handle), what))
+
+static bool is_made(gitwire_result answer, void *handle, const char *what)
 {
 	void *made;
 
 	memcpy(&made, handle, sizeof made);
 	expect((answer == GITWIRE_DONE && made != NULL)
-		|| (answer == GITWIRE_OUT_OF_MEMORY && refused > 0 && made == NULL && live == before), what);
+		|| (answer == GITWIRE_OUT_OF_MEMORY && refused > 0 && made == NULL && live == live_before), what);
 	return answer == GITWIRE_DONE;
 }
 
