@@ -31,9 +31,9 @@
  * its name, or `want` and its object. So 300,000 references fit with names of 74 bytes on average, or with an object each, in either
  * format. A request with more is refused.
  *
- * This limits the memory that a client can take with its place until it is answered: 25 MB, and 11 for 300,000 names of 22 bytes. In
- * addition a place takes 200 KB, and before a request comes only these. So MOST_CLIENTS places can take 3.3 GB: if that is too much, have
- * fewer of them, or a lower limit. With -DMOST_KEPT=1048576 some 20,000 references fit, and a place takes little more than 1 MB.
+ * This limits the memory that a client can take with its slot until it is answered: 25 MB, and 11 for 300,000 names of 22 bytes. In
+ * addition a slot takes 200 KB, and before a request comes only these. So MOST_CLIENTS slots can take 3.3 GB: if that is too much, have
+ * fewer of them, or a lower limit. With -DMOST_KEPT=1048576 some 20,000 references fit, and a slot takes little more than 1 MB.
  *
  * While one client's packet is made the others wait: at most for as long as it takes to sort the prefixes that fit within this limit, which
  * is about a second for 1,700,000 of them, or to compare each `unshallow` line of the text with each `shallow` line of the request. If the
@@ -155,7 +155,7 @@ static void hand_over(struct client *c)
 	c->wants_input = false;
 }
 
-/* Frees the place of a client whose process has ended. */
+/* Frees the slot of a client whose process has ended. */
 static void see_off(struct client *c)
 {
 	char status[40];

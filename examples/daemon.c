@@ -11,12 +11,12 @@
  * Packs are mapped and not copied: write a new one to another file and rename that, since a file that is made shorter ends the daemon.
  * SIGINT ends it.
  *
- * There is a place for MOST_CLIENTS. If another client comes, the one that has been expected to send a whole request for the longest time
- * is closed: so clients that send little keep nobody out. A client that takes an answer, however slowly, keeps its place, and so does one of
+ * There is a slot for each of MOST_CLIENTS. If another client comes, the one that has been expected to send a whole request for the longest time
+ * is closed: so clients that send little keep nobody out. A client that takes an answer, however slowly, keeps its slot, and so does one of
  * FOLDER from its first packet on, if it sends or takes a byte within so many SECONDS: if untrusted clients can reach the host, it has to give
- * each address few places, and limit the time of each session. The memory that a client may take with its place is MOST_KEPT, in client.h.
+ * each address few slots, and limit the time of each session. MOST_KEPT, in client.h, sets the memory that a client may take with its slot.
  *
- * A client above a limit receives an error packet that states the limit and how much it allows: of a request, of time, of places.
+ * A client above a limit receives an error packet that states the limit and how much it allows: of a request, of time, of clients.
  */
 #define _GNU_SOURCE
 #define PROGRAM "daemon"
@@ -46,8 +46,8 @@ static struct pack pack, filtered;
 static struct client clients[MOST_CLIENTS]; /* of zeros: NOBODY */
 static volatile sig_atomic_t is_over;
 
-/* Closes the client that has been expected to send a whole request for the longest time. Returns its place, or NULL if there is no such client. */
-static struct client *make_room(void)
+/* Closes the client that has been expected to send a whole request for the longest time. Returns its slot, or NULL if there is no such client. */
+static struct client *close_slowest(void)
 {
 	struct client *slowest = NULL;
 	time_t latest = seconds() - LEAST_SECONDS;
@@ -57,33 +57,33 @@ static struct client *make_room(void)
 		if (c->phase != NOBODY && awaited(c) == POLLIN && c->since < latest && (slowest == NULL || c->since < slowest->since))
 			slowest = c;
 	if (slowest != NULL) {
-		snprintf(why, sizeof why, "this server has places for no more than %d clients, and another one came", MOST_CLIENTS);
-		dismiss(slowest, "a client made room for another", why);
+		snprintf(why, sizeof why, "this server takes no more than %d clients at a time, and another one came", MOST_CLIENTS);
+		dismiss(slowest, "a client was closed for another", why);
 	}
 	return slowest;
 }
 
-/* A place that is free, or is made free; NULL if there is none. */
-static struct client *vacant_place(void)
+/* A slot that is free, or is made free; NULL if there is none. */
+static struct client *free_slot(void)
 {
 	for (struct client *c = clients; c < clients + MOST_CLIENTS; c++)
 		if (c->phase == NOBODY)
 			return c;
-	return make_room();
+	return close_slowest();
 }
 
-/* Accepts a client that connects. False if there is no place, or no descriptor. */
+/* Accepts a client that connects. False if there is no slot, or no descriptor. */
 static bool welcome(int listener)
 {
-	struct client *place = vacant_place();
+	struct client *slot = free_slot();
 	int connection = -1;
 
-	if (place != NULL)
+	if (slot != NULL)
 		connection = accept4(listener, NULL, NULL, SOCK_NONBLOCK | SOCK_CLOEXEC);
 	if (connection >= 0)
-		begin(place, connection);
-	else if (place != NULL && errno == EMFILE)
-		return make_room() != NULL;
+		begin(slot, connection);
+	else if (slot != NULL && errno == EMFILE)
+		return close_slowest() != NULL;
 	return connection >= 0;
 }
 
@@ -117,7 +117,7 @@ static void give_turns(const struct pollfd *polled)
 static void run(int listener)
 {
 	struct pollfd polled[MOST_CLIENTS + 1];
-	bool is_open = true; /* if not, one wait omits the listener, which would end each wait while there is no place for a client that connects */
+	bool is_open = true; /* if not, one wait omits the listener, which would end each wait while there is no slot for a client that connects */
 
 	while (!is_over) {
 		for (int i = 0; i < MOST_CLIENTS; i++) {

@@ -4,7 +4,7 @@
  *     watch [--sha256] [--transcript FILE] COMMAND [WORD..]
  *
  * The client is on standard input and output, and COMMAND starts the server. The transcript (judge.h) goes to standard error, or to the
- * named file. A packet goes on once it is whole and judged. The first that is malformed, or is not allowed at its place, is reported by
+ * named file. A packet goes on once it is whole and judged. The first that is malformed, or is not allowed where it comes, is reported by
  * name and offset, to the client too; it does not go on, nor does what comes after it, and the conversation ends.
  *
  *     git clone --upload-pack "watch git upload-pack" FOLDER CLONE
@@ -44,7 +44,7 @@ static int report(const char *what)
 }
 
 /* Drops the bytes that went on, if no others may go on yet. */
-static void make_room(struct stream *stream)
+static void drop_sent(struct stream *stream)
 {
 	if (stream->sent < stream->judged)
 		return;
@@ -76,7 +76,7 @@ static bool pass_on(struct stream *stream)
 	if (count < 0)
 		return errno == EINTR || errno == EAGAIN;
 	stream->sent += (size_t)count;
-	make_room(stream);
+	drop_sent(stream);
 	return true;
 }
 
@@ -201,7 +201,7 @@ static void close_server(void)
 		close(requests.to);
 	requests.to = -1;
 	requests.sent = requests.judged;
-	make_room(&requests);
+	drop_sent(&requests);
 }
 
 /* Whether the server has ended, nothing more was expected of it, and everything that it sent has gone on. */

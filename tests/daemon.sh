@@ -551,7 +551,7 @@ case_a_daemon_in_c_lists_beside_many_prefixes() {
     end_daemon
 }
 
-# A hundred and twenty-eight clients that send nothing have all its places, until another one comes.
+# A hundred and twenty-eight clients that send nothing have all its slots, until another one comes.
 case_a_daemon_in_c_makes_room() {
     local i connection first=
     start_daemon history-sha1
@@ -561,9 +561,9 @@ case_a_daemon_in_c_makes_room() {
     done
     ls_remote "$address"
     expect_same 'the list' <(git ls-remote ./history-sha1) out
-    expect_same 'what the daemon reported' <(echo 'daemon: a client made room for another') daemon.err
+    expect_same 'what the daemon reported' <(echo 'daemon: a client was closed for another') daemon.err
     limited cat <&$first > answer || differs 'a connection that did not end'
-    expect_same 'what is sent to the first' <(packet 'ERR this server has places for no more than 128 clients, and another one came') answer
+    expect_same 'what is sent to the first' <(packet 'ERR this server takes no more than 128 clients at a time, and another one came') answer
     end_daemon
 }
 
@@ -584,7 +584,7 @@ case_a_daemon_in_c_serves_beside_those_who_drip() {
     same_clones
     ls_remote "$address"
     expect_same 'the list' <(git ls-remote ./history-sha1) out
-    expect_same 'what the daemon reported' <(echo 'daemon: a client made room for another') daemon.err
+    expect_same 'what the daemon reported' <(echo 'daemon: a client was closed for another') daemon.err
     kill $dripping || differs 'clients that did not go on' dripping.err
     end_daemon
 }

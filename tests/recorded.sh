@@ -213,7 +213,8 @@ case_check_takes_a_session_id() {
     recorded -c transfer.advertiseSID=true clone -q 'ext::record history-sha1 -c transfer.advertiseSID=true' ours
     checks
     grep -a -q 'session-id=' requests || differs 'no session-id' requests
-    expect_line 'the transcript' "capability $(limited git2show show < requests | sed -n 's/^[0-9]* data [0-9]* \(session-id=[^\\]*\).*/\1/p' | head -n 1)" transcript
+    expect_line 'the transcript' \
+        "capability $(limited git2show show < requests | sed -n 's/^[0-9]* data [0-9]* \(session-id=[^\\]*\).*/\1/p' | head -n 1)" transcript
     sed 's/session-id=/session-ix=/' requests > requests.tried
     run git2show check requests.tried responses
     expect_status 1
