@@ -210,7 +210,7 @@ size_t gitwire_kind_name(gitwire_result kind, char *buffer, size_t buffer_length
 /*
  * Untrusted bytes as a text that may be shown on a terminal, or be a line of a log, as `git2show show` shows them: LF is
  * `\n`, a backslash is two, other bytes from 0x20 to 0x7e are unchanged, and each other one is `\x` and two digits. The
- * buffer needs at least GITWIRE_ESCAPE_SIZE bytes; so many for each byte always suffice for all.
+ * buffer needs at least GITWIRE_ESCAPE_SIZE bytes; as many for each byte always suffice for all.
  *
  * DONE: the escapes of all bytes, `length` in the buffer. MORE: the buffer has space only for those of the first `used`
  * bytes; call it again with the others. BUFFER_TOO_SMALL.
@@ -220,8 +220,8 @@ gitwire_answer gitwire_escape(const uint8_t *bytes, size_t bytes_length, char *b
 /*
  * Memory of the program's own: from this call on each block that the library needs comes from `allocate`, and goes back by `deallocate`, which
  * get `user` as it is passed here. They are to do what malloc, realloc and free do: a block is aligned for each type of C, NULL refuses, and
- * the block of a refused `reallocate` stays as it was. They call nothing of the library. If all three are NULL, as at the start, memory is that of
- * malloc, realloc and free.
+ * the block of a refused `reallocate` stays as it was. Each thread that calls the library calls them, perhaps at the same time, and never for 0 bytes.
+ * They call nothing of the library. If all three are NULL, as at the start, memory is that of malloc, realloc and free.
  *
  * It is for the whole program: make this call while there is no handle and no other thread is in the library. BAD_VALUE, if some of the
  * three are NULL and others are not; nothing changed then.
