@@ -77,7 +77,8 @@ static bool take(struct fetch *fetch, const gitwire_event *event)
 		return fwrite(text.at, 1, text.length, fetch->pack) == text.length;
 	if (event->kind == GITWIRE_PROGRESS && isatty(STDERR_FILENO))
 		show_progress(text);
-	if (id.length > 0 && name.length == strlen(fetch->reference) && memcmp(name.at, fetch->reference, name.length) == 0)
+	if (event->kind == GITWIRE_REFERENCE && id.length > 0 && name.length == strlen(fetch->reference)
+		&& memcmp(name.at, fetch->reference, name.length) == 0)
 		memcpy(fetch->id, id.at, id.length); /* of a reference that is not unborn */
 	return true;
 }

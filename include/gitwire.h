@@ -75,14 +75,8 @@
  * This header is for C11, C++11 and later. Neither `gitwire_answer` nor `gitwire_event`, which stand in arrays, changes before
  * 1.0, nor does a number or a call that is here: later versions only add to them.
  *
- * Since 0.2.0 nearly everything is called in another way; CHANGELOG.md has the list. A handle is a pointer, which `_new` sets
- * (it was a struct that began as GITWIRE_NONE); gitwire_offer and gitwire_caps are gone: a format and features are passed as
- * two numbers, and gitwire_client_features and gitwire_client_advertises return what a client has noted. gitwire_client_feed
- * leaves the bytes of PACK and PROGRESS in the chunk, and gitwire_event_part returns each part of an event. Each kind of number
- * is an enum and has 32 bits; formats, commands, endings, flags, lists and the numbers of requests begin at 1, where they began
- * at 0; gitwire_request_command, gitwire_request_format and gitwire_host_command return the number, or 0 if there is none.
- * gitwire_version, gitwire_fault_name and gitwire_fault_sentence return texts that last. Constants are named _SIZE, _DEFAULT_
- * and _MAXIMUM_, and the result NO_HANDLE is NO_REQUEST. So a program has to be changed and compiled again.
+ * Since 0.2.0 nearly every call is made in another way, so a program has to be changed and compiled again; CHANGELOG.md, in the
+ * project's repository, has the list.
  */
 #ifndef GITWIRE_H
 #define GITWIRE_H
