@@ -381,6 +381,29 @@ case_upload_pack_serves_over_ssh() {
     done
 }
 
+# The script of docs/HOSTING.md, which the key of an account starts whatever its client asks for, serves the repositories of its folder, and nothing else.
+case_upload_pack_is_a_forced_command() {
+    local asked
+    mkdir -p srv/git
+    cp -r "$(git -C history-sha1 rev-parse --absolute-git-dir)" srv/git/team.git
+    awk '$0 == "    #!/bin/sh" { inside = 1 } inside && !/^    / { exit } inside { print substr($0, 5) }' "$top/docs/HOSTING.md" |
+        sed "s,/srv/git,$room/srv/git," > bin/serve-git
+    printf '%s\n' '#!/bin/sh' 'while [ $# -gt 1 ]; do shift; done' 'SSH_ORIGINAL_COMMAND=$1 exec serve-git' > bin/forced-ssh
+    chmod +x bin/serve-git bin/forced-ssh
+    export GIT_SSH=$room/bin/forced-ssh GIT_SSH_VARIANT=simple
+    clone_from_git history-sha1
+    for asked in nobody@nowhere:team.git ssh://nobody@nowhere/team.git; do
+        rm -rf ours
+        run git -c protocol.version=2 clone -q "$asked" ours
+        same_clones
+    done
+    for asked in "git-receive-pack 'team.git'" "git-upload-pack 'team.git'; id '" "git-upload-pack '../git/team.git'" "git-upload-pack '.git'" \
+        "git-upload-pack team.git" ''; do
+        SSH_ORIGINAL_COMMAND=$asked run serve-git
+        expect 1 /dev/null <(echo 'only fetches are served here')
+    done
+}
+
 case_upload_pack_filters() {
     configured history-sha1 uploadpack.allowFilter true
     uploads served --filter=blob:none
