@@ -5,10 +5,10 @@
  *
  * The library reads the requests and makes the answers; what it asks for is looked up by commands of Git: references by `git show-ref` or
  * `git for-each-ref` or both, objects by one `git cat-file --batch-command` that runs as long as the session, the ends of a shallow history
- * by `git rev-list`, and packs by `git pack-objects --revs --stdout`, whose bytes pass on as they come. If one of them fails, the client
+ * by `git rev-list`, and packs by `git pack-objects --revs --stdout`, whose bytes are passed on as they come. If one of them fails, the client
  * receives an error. It speaks version 2 alone, whatever version its client asks for.
  *
- *     git clone --upload-pack=.../upload-pack REPOSITORY CLONE
+ *     git clone --upload-pack=.../upload-pack "file://$PWD/REPOSITORY" CLONE
  */
 #define PROGRAM "upload-pack"
 #define _GNU_SOURCE

@@ -7,7 +7,7 @@
  * named file. A packet goes on once it is whole and judged. The first that is malformed, or is not allowed where it comes, is reported by
  * name and offset, to the client too; it does not go on, nor does what comes after it, and the conversation ends.
  *
- *     git clone --upload-pack "watch git upload-pack" FOLDER CLONE
+ *     git clone --upload-pack "watch git upload-pack" "file://$PWD/FOLDER" CLONE
  *
  * The client has its turn until a request is whole, and the server until it has answered: what one sends before its turn waits. For each
  * side there is a buffer of one packet, and one in the library; beside them the library keeps what the arguments of one request take. There
