@@ -142,6 +142,7 @@ static void try_references(void)
 	ask(LS_REFS "000bunborn\n" "000csymrefs\n" "0000", GITWIRE_LS_REFS);
 	EXPECT(tells_fault(gitwire_host_unborn(host, TEXT("main"), BUFFER), GITWIRE_FAULT_BAD_REF_NAME, 0, 0));
 	EXPECT(sends(gitwire_host_unborn(host, TEXT("refs/heads/main"), BUFFER), 0, "002eunborn HEAD symref-target:refs/heads/main\n"));
+	EXPECT(tells(gitwire_host_unborn(host, TEXT("refs/heads/main"), BUFFER), GITWIRE_NOT_NOW, 0, 0, 0));
 	EXPECT(tells(reference(ONE, "HEAD", "", ""), GITWIRE_OUT_OF_ORDER, 0, 0, 0));
 	EXPECT(sends(gitwire_host_references_end(host, BUFFER), 0, "0000"));
 	EXPECT(tells(gitwire_host_feed(host, BYTES("00000000")), GITWIRE_NOT_NOW, 0, 0, 0));
