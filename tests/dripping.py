@@ -17,9 +17,12 @@ def greeted(port, greeting):
     """A client that has received the advertisement, which ends with a flush."""
     client = socket.create_connection(("127.0.0.1", port))
     client.sendall(greeting)
-    heard = b""
-    while not heard.endswith(b"0000"):
-        heard += client.recv(65536)
+    received = b""
+    while not received.endswith(b"0000"):
+        part = client.recv(65536)
+        if not part:
+            sys.exit("dripping.py: the daemon closed a client that has sent its greeting")
+        received += part
     return client
 
 

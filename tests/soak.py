@@ -18,7 +18,7 @@ import sys
 import threading
 from concurrent.futures import ThreadPoolExecutor
 
-AT_ONCE = 140  # more than a daemon has places for
+AT_ONCE = 140  # more than a daemon has slots for
 PATIENCE = 60  # seconds in which a session has to end
 
 
