@@ -1,8 +1,9 @@
 -- The states of a server in a run, and the laws that join its calls.
 use Rattle.std.specs.Prelude.{◌≡◌, ℕ, Bool, true, List, [], ◌++◌, Option, Some, IsSome}
-use Rattle.std.proofs.Common.{refl, sym, ap, ◌∙◌, append_assoc, append-nil, subst}
+use Rattle.std.proofs.Common.{refl, sym, append_assoc, subst}
 use Rattle.std.specs.Io.{StartsWith}
-use Rattle.git_loop.specs.Moves.{Move, ended_after, given_to, used_of, ended_after-append, given_to-append, used_of-append}
+use Rattle.git_loop.specs.Carried.{Carries, carries_further, carries_itself}
+use Rattle.git_loop.specs.Moves.{Move, ended_after, given_to, used_of}
 use Rattle.git_pkt.specs.Packets.{Pkt, Spells}
 use Rattle.git_pkt.specs.Machine.PacketReader.{held_of}
 use Rattle.git_pkt.specs.declared.fault.Fault.{Fault}
@@ -57,9 +58,7 @@ module _ {R A : Type 0} where
 
 module _ {R A : Type 0} (state : R → RepoState) where
   pub goes_nowhere : (server : Server R A) → Goes state [] [] server server
-  goes_nowhere server s so_far over before r =
-      subst (λ (l : List ℕ). Running state s l over (before ++ []) server) (sym (append-nil so_far))
-      (subst (λ (l : List ℕ). Running state s so_far over l server) (sym (append-nil before)) r)
+  goes_nowhere server = carries_itself (Running state) server
 
   module _ (old middle new : Server R A) where
     -- one call after another
@@ -71,19 +70,11 @@ module _ {R A : Type 0} (state : R → RepoState) where
 
   -- the relation that held before these moves holds after them, with what they used and sent
   abbrev pub ServerReaches : Server R A → List Move → Server R A → Type 0
-  ServerReaches old trace new =
-      (s : Setting) (so_far : List ℕ) (over : Bool) (before : List ℕ) → Running state s so_far over before old
-      → Running state s (so_far ++ used_of 0 trace) (ended_after 0 over trace) (before ++ given_to 0 trace) new
+  ServerReaches old trace new = Carries (Running state) old trace new
 
   pub reaches_further : (old middle new : Server R A) (t u : List Move) → ServerReaches old t middle → ServerReaches middle u new
       → ServerReaches old (t ++ u) new
-  reaches_further old middle new t u first second s so_far over before r =
-      let used = append_assoc so_far (used_of 0 t) (used_of 0 u) ∙ ap (λ (l : List ℕ). so_far ++ l) (sym (used_of-append 0 t u)) in
-      let given = append_assoc before (given_to 0 t) (given_to 0 u) ∙ ap (λ (l : List ℕ). before ++ l) (sym (given_to-append 0 t u)) in
-      subst (λ (b : Bool). Running state s (so_far ++ used_of 0 (t ++ u)) b (before ++ given_to 0 (t ++ u)) new) (sym (ended_after-append 0 over t u))
-      (subst (λ (l : List ℕ). Running state s l (ended_after 0 (ended_after 0 over t) u) (before ++ given_to 0 (t ++ u)) new) used
-      (subst (λ (l : List ℕ). Running state s ((so_far ++ used_of 0 t) ++ used_of 0 u) (ended_after 0 (ended_after 0 over t) u) l new) given
-      (second s (so_far ++ used_of 0 t) (ended_after 0 over t) (before ++ given_to 0 t) (first s so_far over before r))))
+  reaches_further old middle new t u first second = carries_further (Running state) old middle new t u first second
 
   pub keeps_session : (old new : Server R A) (trace : List Move) → ServerReaches old trace new → IsOfASession state old → IsOfASession state new
   keeps_session old new trace reaches h = record {
