@@ -2,8 +2,10 @@
 
 ghost use Rattle.std.specs.Prelude.{◌≡◌};
 
+use std::fmt;
+
 /// The bytes of a pack.
-#[derive(Debug, Drop)]
+#[derive(Drop)]
 pub enum Pack {
     /// They are the repository's own, which frees them.
     Owned(Vec<u8>),
@@ -21,6 +23,16 @@ impl Pack {
         match self {
             Pack::Owned(bytes) => bytes,
             Pack::Lent(bytes) => bytes,
+        }
+    }
+}
+
+/// Whose bytes they are, and how many: a pack may have millions.
+impl fmt::Debug for Pack {
+    fn fmt<W: fmt::Write>(&self, f: &mut fmt::Formatter<W>) -> fmt::Result {
+        match self {
+            Pack::Owned(bytes) => write!(f, "Owned({} bytes)", bytes.len()),
+            Pack::Lent(bytes) => write!(f, "Lent({} bytes)", bytes.len()),
         }
     }
 }
