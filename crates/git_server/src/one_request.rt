@@ -80,11 +80,11 @@ impl<'s, R: Repo, A: Allocator + Copy> Machine for OneRequest<'s, R, A> {
     }
 }
 
-/// Feeds a server that waits for a request with the bytes of an input, until it has an answer or a refusal to send, or the session has
-/// ended. Nothing more is read then; what was read after the request waits in the input.
+/// Feeds the bytes of an input to a server that waits for a request, until the server has an answer or a refusal to send, or the session has
+/// ended. Then it reads nothing more, and bytes that were read after the request wait in the input.
 ///
-/// `ReadFault` if a read fails, and `ReadLimit` if more reads than the `turns` that are allowed would be needed. The server waits for input
-/// then.
+/// The error is `ReadFault` if a read fails, and `ReadLimit` if another read would exceed the number `turns` of reads that are allowed. In
+/// both cases the server still waits for input.
 pub fn take_request<In: Read, R: Repo, A: Allocator + Copy>(
     input: &mut OneInput<'_, In>,
     server: &mut Server<R, A>,

@@ -76,7 +76,7 @@ pub enum Pulled<'a> {
     Finished(Outcome),
 }
 
-// The next action of a session.
+/// The next action of a session.
 #[derive(Clone, Copy, Debug)]
 pub(crate) enum Turn {
     Packet,
@@ -221,7 +221,7 @@ impl<R: Repo, A: Allocator + Copy> Server<R, A> {
         }
     }
 
-    // Whether a packet has to be sent, and what to do if there is none.
+    /// Whether a packet has to be sent, and what to do if there is none.
     pub(crate) fn turn(&self) -> Turn
         ensures { result ≡ turn_in self.now.phase }
     {
@@ -233,7 +233,7 @@ impl<R: Repo, A: Allocator + Copy> Server<R, A> {
         }
     }
 
-    // The packet at the front of the buffer.
+    /// The packet at the front of the buffer.
     pub(crate) fn packet(&self) -> &[u8]
         requires { HasFront (held_of self.now.reader) }
         ensures front { (packet : Pkt) (bytes : List ℕ) → Spells packet bytes → StartsWith (held_of self.now.reader) bytes → result.now ≡ bytes }
@@ -242,7 +242,7 @@ impl<R: Repo, A: Allocator + Copy> Server<R, A> {
         front_packet(self.reader.hold())
     }
 
-    // Puts the next packet that has to be sent at the front of the buffer.
+    /// Puts the next packet that has to be sent at the front of the buffer.
     pub(crate) fn give(&mut self)
         requires { turn_in self.old.phase ≡ Turn.Packet }
         ensures gives { Gives R.state self.old self.new }
