@@ -15,7 +15,7 @@ pub(crate) struct Escape {
     digits: usize,
 }
 
-/// Appends the bytes that a text of a trace stands for. Behind a backslash the longest digits are read that Git writes for one byte.
+/// Appends the bytes that a text of a trace stands for. After a backslash it reads the most digits that Git writes for one byte.
 pub fn unescape(text: &[u8], out: &mut Vec<u8>) -> Result<(), AllocError>
     ensures { OnOk result (out.new.items ≡ out.old.items ++ unescaped text.now) }
 {
@@ -34,7 +34,7 @@ pub fn unescape(text: &[u8], out: &mut Vec<u8>) -> Result<(), AllocError>
     Ok(())
 }
 
-/// What a backslash begins before this text.
+/// The escape that a backslash before this text begins.
 fn escape_at(text: &[u8]) -> Escape
     ensures escape { result ≡ escape_at text.now }
     ensures within { result.digits ≤ 11 }
@@ -69,21 +69,21 @@ fn escape_at(text: &[u8]) -> Escape
     }
 }
 
-/// Whether the digits of a byte from 0x80 begin the text, as a number of 32 bits below zero: so Git writes it where characters have a sign.
+/// Whether the text begins with the digits of a byte from 0x80 on, written as a negative number of 32 bits: Git does so where `char` has a sign.
 fn has_eleven(text: &[u8]) -> bool
     ensures { result ≡ has_eleven text.now }
 {
     text.starts_with(b"37777777") && are_three_at(text, 8) && three_at(text, 8) >= 384
 }
 
-/// Whether the digits of a byte from 0x7f begin the text.
+/// Whether the text begins with the three digits of a byte from 0x7f on.
 fn has_three(text: &[u8]) -> bool
     ensures { result ≡ has_three text.now }
 {
     are_three_at(text, 0) && three_at(text, 0) >= 127 && three_at(text, 0) <= 255
 }
 
-/// Whether those of a byte from 8 to 31 do, but an LF.
+/// Whether the text begins with the two digits of a byte from 8 to 31, other than LF.
 fn has_two(text: &[u8]) -> bool
     ensures { result ≡ has_two text.now }
 {
@@ -122,7 +122,7 @@ fn is_octal_at(text: &[u8], at: usize) -> bool
     octal_at(text, at) < 8
 }
 
-/// The value of the octal digit at a place, and 8 where none is.
+/// The value of the octal digit at this index; 8 if there is none.
 fn octal_at(text: &[u8], at: usize) -> usize
     ensures value { result ≡ octal_at text.now at }
     ensures within { result ≤ 8 }

@@ -1,11 +1,11 @@
-//! What a packet of a trace is, in a word.
+//! The words that name the kinds of packets in a trace.
 
 ghost use Rattle.std.specs.Prelude.{◌≡◌, drop};
 ghost use Rattle.std.specs.List.{list_any};
 ghost use Rattle.std.specs.Str.{bytes_eq};
 ghost use Rattle.git_trace.specs.ShownLines.{bytes_shown, colour_of, label_in, name_of, sections};
 
-/// What a packet is.
+/// The kind of a packet, as it is named in columns.
 #[derive(Clone, Copy, Debug, PartialEq, Eq)]
 pub(crate) enum Label {
     /// A flush packet.
@@ -31,7 +31,7 @@ pub(crate) enum Label {
 }
 
 impl Label {
-    /// What bytes begin.
+    /// The label of a packet with these bytes.
     pub(crate) fn of_bytes(bytes: &[u8]) -> Self
         ensures { result ≡ label_in bytes.now }
     {
@@ -67,7 +67,7 @@ impl Label {
         }
     }
 
-    /// What switches its colour on.
+    /// The escape sequence that switches its colour on.
     pub(crate) fn colour(self) -> &'static [u8]
         ensures { result.now ≡ colour_of self }
     {
@@ -82,7 +82,7 @@ impl Label {
         }
     }
 
-    /// What is shown of the bytes: all but a band.
+    /// The bytes that are shown: all, except the byte that names a band.
     pub(crate) fn text(self, bytes: &[u8]) -> &[u8]
         ensures { result.now ≡ bytes_shown self bytes.now }
     {
@@ -110,7 +110,7 @@ fn is(text: &[u8], word: &[u8]) -> bool
     text == word
 }
 
-/// Bytes without the first.
+/// The bytes after the first.
 fn behind_band(bytes: &[u8]) -> &[u8]
     ensures { result.now ≡ drop 1 bytes.now }
 {

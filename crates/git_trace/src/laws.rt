@@ -16,7 +16,7 @@ pub fn lines_are_read()
         → traced_in line ≡ Some (record { name = name; direction = direction; content = content_in content }) }
 {}
 
-/// Of a line of a packet one line is shown, and of any other nothing.
+/// For a line that names a packet one line is shown, and for any other line nothing.
 pub fn a_packet_has_one_line()
     ensures packet { (look : Look) (line : List ℕ) (traced : Traced) → traced_in line ≡ Some traced
         → (shown : List ℕ) × (shown_line look line ≡ shown ++ codes "\n") × (list_all is_written shown ≡ true) }

@@ -1,4 +1,4 @@
-//! The line that is shown of a packet of a trace.
+//! The line that is shown for a packet of a trace.
 
 ghost use Rattle.std.specs.Prelude.{◌≡◌, ◌≤◌, ◌++◌, ◌-◌, [], min, length, take, IfOk, OnOk};
 ghost use Rattle.git_pkt.specs.Escape.{escape_of, escaped_of};
@@ -12,7 +12,7 @@ use crate::trace_lines::{Direction, TraceLine, TracePacket, read_bytes, read_tra
 use git_pkt::escape_into;
 use std::alloc::{AllocError, Global};
 
-/// How many bytes of a text are shown in columns, at most.
+/// The maximum number of bytes of a packet that are shown in columns.
 const FRONT: usize = 1024;
 
 /// The maximum number of columns.
@@ -31,16 +31,16 @@ static SPACES: [u8; NAME] = [b' '; NAME];
 pub enum Look {
     /// The process's name, `<` or `>`, the packet's kind, and its bytes.
     Lines,
-    /// Columns for a reader.
+    /// Columns for a human reader.
     Columns {
-        /// Whether what a packet is has a colour.
+        /// Whether the word for a packet's kind has a colour.
         colours: bool,
-        /// How many columns a line has at most, which is 200 where it is more.
+        /// The maximum number of columns of a line. A number above 200 counts as 200.
         width: u32,
     },
 }
 
-/// Appends what is shown of a line of a trace: the line of its packet, or nothing where it is none of a packet. Returns whether it is one.
+/// Appends what is shown for a line of a trace: one line if it names a packet, and otherwise nothing. Returns whether it names one.
 pub fn show_trace_line(
     alloc: Global,
     look: Look,
@@ -118,7 +118,7 @@ fn kind_word(packet: TracePacket<'_>) -> &'static [u8]
     }
 }
 
-/// Appends bytes as `show` escapes them, if there are some, behind a space.
+/// Appends a space and the bytes as `show` escapes them. Appends nothing if there are no bytes.
 fn put_payload(bytes: &[u8], out: &mut Vec<u8>) -> Result<(), AllocError>
     ensures { OnOk result (out.new.items ≡ out.old.items ++ payload_shown bytes.now) }
 {
@@ -172,7 +172,7 @@ fn put_process(name: &[u8], direction: Direction, out: &mut Vec<u8>) -> Result<(
     out.extend_from_slice(b"  ")
 }
 
-/// What a packet with these bytes is.
+/// The label of a packet with these bytes.
 fn label_of(packet: TracePacket<'_>, bytes: &[u8]) -> Label
     ensures { result ≡ label_of (stated_by packet.entry) bytes.now }
 {
@@ -200,7 +200,7 @@ fn put_spaces(count: usize, out: &mut Vec<u8>) -> Result<(), AllocError>
     out.extend_from_slice(&SPACES[..count])
 }
 
-/// Appends a text, cut to its width.
+/// Appends a text. One that is longer than the space is cut, and two dots stand for the rest.
 fn put_cut(space: usize, text: &[u8], out: &mut Vec<u8>) -> Result<(), AllocError>
     ensures { OnOk result (out.new.items ≡ out.old.items ++ cut space text.now) }
 {

@@ -1,4 +1,4 @@
-//! A line of a trace that names a packet.
+//! Lines of a trace that name packets.
 
 ghost use Rattle.std.specs.Prelude.{◌≡◌, ◌++◌, ◌≤◌, None, Some, length, drop, take, MatchOption, OnOk, IfSome};
 ghost use Rattle.std.specs.List.{prefix_len};
@@ -9,18 +9,18 @@ ghost use Rattle.git_trace.specs.TraceLines.{stated_by, content_in, seen_line, t
 use crate::escapes::unescape;
 use std::alloc::AllocError;
 
-/// A line of a trace that is one of a packet.
+/// A line of a trace that names a packet.
 #[derive(Clone, Copy, Debug)]
 pub struct TraceLine<'a> {
-    /// The name that the process gives itself, as `clone`, `fetch`, `upload-pack` or `sideband`.
+    /// The name that the process gives itself, such as `clone`, `fetch`, `upload-pack` or `sideband`.
     pub name: &'a [u8],
     /// Whether it received or sent the packet.
     pub direction: Direction,
-    /// What the line has of the packet.
+    /// What the line contains of the packet.
     pub packet: TracePacket<'a>,
 }
 
-/// The way of a packet, as the process that wrote the line saw it.
+/// The direction of a packet, as the process that wrote the line saw it.
 #[derive(Clone, Copy, Debug, PartialEq, Eq)]
 pub enum Direction {
     /// `<`: the process received it.
@@ -29,7 +29,7 @@ pub enum Direction {
     Sent,
 }
 
-/// What a line has of a packet.
+/// What a line contains of a packet.
 #[derive(Clone, Copy, Debug)]
 pub enum TracePacket<'a> {
     /// `0000`, a flush packet.
@@ -44,8 +44,8 @@ pub enum TracePacket<'a> {
     Text(&'a [u8]),
 }
 
-/// Reads a line of a trace, without its LF. It is none of a packet where the word `packet: ` or a part behind it is missing, as in
-/// lines of other keys of GIT_TRACE.
+/// Reads a line of a trace, without its LF. Returns none if the line names no packet: the word `packet: ` or a part after it is missing, as in
+/// the lines of other keys of GIT_TRACE.
 pub fn read_trace_line(line: &[u8]) -> Option<TraceLine<'_>>
     ensures { MatchOption result (traced_in line.now ≡ None) (λ t. traced_in line.now ≡ Some (seen_line t)) }
 {
@@ -89,7 +89,7 @@ fn without_spaces(text: &[u8]) -> &[u8]
     &text[count..]
 }
 
-/// What a line has whose parts from the name on are these.
+/// What a line contains, by its parts from the name on.
 fn in_parts(parts: &[u8]) -> Option<TraceLine<'_>>
     ensures { MatchOption result (in_parts parts.now ≡ None) (λ t. in_parts parts.now ≡ Some (seen_line t)) }
 {

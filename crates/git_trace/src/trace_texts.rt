@@ -15,7 +15,7 @@ pub const LONGEST_TRACE_LINE: usize = 1_048_576;
 pub enum TraceFault {
     /// This line is longer than a line may be.
     LongLine(u64),
-    /// The text ended before this line, and none was one of a packet.
+    /// The text ended before this line, and no line named a packet.
     NoPackets(u64),
     /// Memory ran out.
     OutOfMemory,
@@ -40,7 +40,7 @@ pub struct TraceReader {
     begun: Vec<u8>,
     /// How many lines have ended.
     lines: u64,
-    /// Whether one of them was one of a packet.
+    /// Whether one of them named a packet.
     has_packets: bool,
     ghost short: { length begun.items ≤ 1048576 },
 }
