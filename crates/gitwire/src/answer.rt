@@ -11,9 +11,9 @@ use git_pkt::Fault;
 pub struct GitwireAnswer {
     /// How many bytes of the chunk were used.
     pub used: usize,
-    /// An offset in the stream, or a number.
+    /// An offset in the stream, counted in bytes from 0; or the number that was asked for.
     pub offset: u64,
-    /// How many bytes were written to the front of the buffer.
+    /// How many bytes are at the front of the buffer; or how many packets or events are in the array.
     pub length: usize,
     /// The number of a [`What`].
     pub kind: u32,

@@ -76,6 +76,7 @@ pub(crate) struct Handle {
 }
 
 impl Handle {
+    /// A handle without a machine.
     pub(crate) fn none(alloc: Global) -> Handle
         ensures { result.held.machine ≡ None }
     {
@@ -85,6 +86,7 @@ impl Handle {
         }
     }
 
+    /// The handle of this machine.
     pub(crate) fn of(machine: Box<Machine, Global>) -> Handle
         ensures { result.held.machine ≡ Some machine.value }
     {
@@ -94,6 +96,7 @@ impl Handle {
         }
     }
 
+    /// The machine, if the handle has one.
     pub(crate) fn into_machine(self) -> Option<Box<Machine, Global>>
         ensures { MatchOption result (self.held.machine ≡ None) (λ machine. self.held.machine ≡ Some machine.value) }
     {
@@ -129,6 +132,7 @@ pub(crate) struct Shell {
 }
 
 impl Shell {
+    /// A new box; none if there is no memory for it.
     pub(crate) fn new(alloc: Global) -> Option<Shell> {
         match Box::new(alloc, Machine::Empty) {
             Ok(machine) => Some(Shell { machine }),

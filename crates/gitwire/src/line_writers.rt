@@ -210,6 +210,7 @@ fn make_info(
     Ok(())
 }
 
+/// The line of the shallow boundary for this commit: `shallow` or else `unshallow`.
 pub(crate) fn boundary_of(shallow: bool, id: Oid) -> Boundary
     ensures { result ≡ boundary_of shallow id }
 {

@@ -90,7 +90,7 @@ fn add(request: &mut Request<Global>, line: &[u8]) -> GitwireAnswer
 fn add_line(request: &mut Request<Global>, line: &[u8]) -> Result<(), Kind>
     ensures { AddsLine request.old line.now result request.new }
 {
-    // So that a line is checked by its own text alone.
+    // An offer of everything, so that a line is checked by its own text alone.
     let offer = Offer::everything(request.format());
     match read_argument(request.command(), &offer, line, &mut Steps::new()) {
         Ok(argument) => request.add(argument),
@@ -152,6 +152,7 @@ pub extern "C" fn gitwire_request_format(alloc: Global, request: &mut GitwireReq
     answer
 }
 
+/// Reports a number of a request: `Done`, and `offset` is the number.
 pub(crate) fn announce_number(number: u64) -> GitwireAnswer
     ensures { result ≡ announcing_number number }
 {

@@ -37,6 +37,7 @@ pub(crate) fn put_item(
     }
 }
 
+/// Writes the text to the front of the buffer, or reports `Nothing` if there is none.
 pub(crate) fn put_text_if_any(text: Option<&[u8]>, buffer: &mut [u8]) -> GitwireAnswer
     ensures { PutsItem (option_copied text.entry) buffer.old result buffer.new }
 {
@@ -46,6 +47,7 @@ pub(crate) fn put_text_if_any(text: Option<&[u8]>, buffer: &mut [u8]) -> Gitwire
     }
 }
 
+/// Writes the digits of the object name to the front of the buffer, or reports `Nothing` if there is none.
 pub(crate) fn put_name_if_any(id: Option<&Oid>, buffer: &mut [u8]) -> GitwireAnswer
     ensures { PutsItem (option_map hex_of (option_copied id.entry)) buffer.old result buffer.new }
 {
