@@ -9,10 +9,10 @@ use git_pkt::{Got, Packet, PacketReader, Recorded, RunFault};
 use git2show_lib::{Look, Tally, show_packet, summarize};
 use std::io::{BufRead, Write};
 
-/// How a conversation looks.
+/// How the packets of a conversation are shown.
 #[derive(Clone, Copy, Debug)]
 pub(crate) struct Columns {
-    /// What its lines look like behind the mark.
+    /// What a line looks like after the mark of its direction.
     pub(crate) look: Look,
     /// Whether packets with bytes of a pack are left out.
     pub(crate) no_pack: bool,
@@ -24,9 +24,9 @@ pub(crate) struct Half<R> {
     input: R,
     packets: PacketReader,
     tally: Tally,
-    /// What its lines begin with.
+    /// The mark of its direction, with which its lines begin.
     mark: &'static [u8],
-    /// The offset at which it is refused, if it is: nothing is shown after the packet there.
+    /// The offset at which it is refused, if it is refused: nothing is shown after the packet at that offset.
     refused: Option<u64>,
 }
 
@@ -199,7 +199,7 @@ fn show_first<W: Write>(
     Ok(Step { used, shown })
 }
 
-/// Whether the packet at this offset is that of a stream which is refused there, or the first after that place.
+/// Whether the packet at this offset is the last that is shown: the stream is refused at this offset, or before it.
 fn is_at_end(offset: u64, refused: Option<u64>) -> bool {
     match refused {
         Some(end) => offset >= end,

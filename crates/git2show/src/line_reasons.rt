@@ -168,7 +168,7 @@ fn first_word(text: &[u8]) -> &[u8] {
     word
 }
 
-/// The word after that.
+/// The second word of a text.
 fn second_word(text: &[u8]) -> &[u8] {
     let (_, rest) = split_at_first(text, b' ');
     first_word(rest.unwrap_or(b""))

@@ -154,7 +154,7 @@ fn play_command<'a>(alloc: Global) -> Result<Command<'a>, AllocError> {
         ))
 }
 
-/// A command with the files of a repository: its text, its pack, and the pack for requests that have a filter.
+/// The command with the arguments that name the files of a repository: its text, its pack, and the pack for requests that have a filter.
 fn with_repository<'a>(alloc: Global, command: Command<'a>) -> Result<Command<'a>, AllocError> {
     command
         .arg(file_argument(alloc, "repo").help(
@@ -197,7 +197,7 @@ fn stateless_argument<'a>(alloc: Global, help: &'a str) -> Arg<'a> {
     flag_argument(alloc, "stateless").help(help)
 }
 
-/// An argument that is there or not.
+/// An argument without a value: the command line has it or not.
 fn flag_argument<'a>(alloc: Global, name: &'a str) -> Arg<'a> {
     Arg::new(alloc, name).long(name).action(ArgAction::SetTrue)
 }

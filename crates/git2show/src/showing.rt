@@ -9,9 +9,10 @@ use std::alloc::{AllocError, Global};
 use std::env::{self, VarError};
 use std::io::IsTerminal;
 
-/// How many columns a line has at least, and at most.
+/// The minimum number of columns of a line.
 const NARROWEST: i64 = 40;
 
+/// The maximum number of columns of a line.
 const WIDEST: i64 = 200;
 
 /// The default number of columns of a line.
@@ -118,7 +119,7 @@ fn view_of<'a>(matches: &'a ArgMatches<'_>, form: Form) -> Option<View<'a>> {
     Some(view)
 }
 
-/// What the line of a packet is, by the command line. A terminal gets columns if no other form is chosen.
+/// The form of a packet's line, by the command line. A terminal gets columns if no other form is chosen.
 pub(crate) fn form_of(rt: &HostRuntime, matches: &ArgMatches<'_>) -> Form {
     let on_terminal = rt.stdout().is_terminal();
     if matches.get_flag("json") {

@@ -62,8 +62,8 @@ fn look_of(form: Form) -> Look {
     }
 }
 
-/// Shows the packets of a trace that a reader gives. The lines of a chunk are written before the next is read, and before a fault is
-/// answered.
+/// Shows the packets of a trace that comes from a reader. The lines of a chunk are written before the next chunk is read, and before a fault
+/// is reported.
 fn show_trace<R: Read, W: Write>(
     alloc: Global,
     reader: &mut Recorded<R>,

@@ -14,7 +14,7 @@ use std::test::Fail;
 /// More than any of these sessions takes.
 pub const ENOUGH: usize = 4_096;
 
-/// So many that a byte kept of each would not fit.
+/// So many references that one byte kept of each would not fit.
 const REFERENCES: u32 = 100_000;
 
 /// A request for references below two prefixes.
@@ -90,7 +90,7 @@ fn answer(rt: &impl Abort, need: Need) -> Report<'static> {
     }
 }
 
-/// Reports what is needed. Where memory runs out nothing changed: the same is needed, and the host gives up.
+/// Reports what is needed. If memory runs out, the server has to be unchanged and to need the same, and then the host gives up.
 fn report(
     rt: &impl Abort,
     server: &mut HostServer<&LocalHeap>,
@@ -110,7 +110,7 @@ fn report(
     Ok(())
 }
 
-/// Does what is to be done up to where more bytes are needed. The outcome, if the session is over.
+/// Takes the server's steps up to where it needs more bytes. Returns the outcome, if the session is over.
 fn go_on(
     rt: &impl Abort,
     server: &mut HostServer<&LocalHeap>,
@@ -128,7 +128,7 @@ fn go_on(
     Ok(None)
 }
 
-/// The packets of the session with so much memory, and how it ends.
+/// The packets of the session with this much memory, and its outcome.
 fn converse_with(
     rt: &(impl Abort + AllocGlobal),
     size: usize,
@@ -148,7 +148,7 @@ fn converse_with(
     Ok((output, server.outcome()))
 }
 
-/// The packets before the error packet are the first ones of the answers.
+/// Expects that the packets before the error packet are the first ones of the answers. Returns the kind of the error.
 fn expect_front(
     rt: &(impl Abort + AllocGlobal),
     given: &[u8],

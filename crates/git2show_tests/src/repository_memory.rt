@@ -18,7 +18,7 @@ shallow aaaaaaaaaaaaaaaaaaaaaaaaaaaaaaaaaaaaaaaa\n";
 /// More growths than the text takes.
 const ENOUGH: u32 = 100;
 
-/// Memory that lets lists grow so many times, and refuses the next growth.
+/// Memory that allows this many growths of lists, and refuses each later one.
 #[derive(Drop)]
 struct Growths {
     alloc: Global,
@@ -65,7 +65,7 @@ fn no_packs(alloc: Global) -> Packs {
     }
 }
 
-/// What a reader makes of the text, that it is fed in chunks of so many bytes.
+/// The result of a reader that is fed the text in chunks of this many bytes.
 fn read_in_chunks(memory: &Growths, size: usize) -> Result<ListRepo, TextFault> {
     let mut reader = RepositoryReader::new(memory);
     for chunk in TEXT.chunks(size.max(1)) {
@@ -76,7 +76,7 @@ fn read_in_chunks(memory: &Growths, size: usize) -> Result<ListRepo, TextFault> 
     reader.finish(no_packs(memory.alloc))
 }
 
-/// That a text is read, or refused for a growth that was refused, and for that reason alone. Returns whether it is read.
+/// Expects that the text is read if no growth was refused, and otherwise that memory ran out. Returns whether it is read.
 fn is_read(rt: &impl Abort, memory: &Growths, read: Result<ListRepo, TextFault>) -> bool {
     match read {
         Ok(repo) => {

@@ -82,7 +82,7 @@ fn all_is_flushed_where_the_reads_are_spent(rt: HostRuntime) -> Result<(), Fail>
     Ok(())
 }
 
-// Returns one chunk for each read, and notes how many bytes had been flushed by then.
+/// Returns one chunk for each read, and notes how many bytes had been flushed by then.
 #[derive(Drop)]
 pub(crate) struct Asking<'a> {
     pub(crate) chunks: &'a [&'a [u8]],
@@ -104,7 +104,7 @@ impl<'a> Read for Asking<'a> {
     }
 }
 
-// Counts the bytes that its flushes passed on.
+/// Counts the bytes that its flushes passed on.
 #[derive(Drop)]
 pub(crate) struct Counted<'a> {
     pub(crate) waiting: usize,

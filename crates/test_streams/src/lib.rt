@@ -7,10 +7,15 @@ use std::io::{ErrorKind, Read, Write};
 /// Returns at most `step` of its bytes for each read, and fails once with `error`, at the read numbered `failing` from 0.
 #[derive(Drop)]
 pub struct Stream<'a> {
+    /// The bytes that were not read yet.
     pub rest: &'a [u8],
+    /// The maximum number of bytes for each read.
     pub step: usize,
+    /// The number of the read that fails, from 0.
     pub failing: u32,
+    /// The error of the read that fails.
     pub error: ErrorKind,
+    /// How many reads were made.
     pub reads: u32,
 }
 
@@ -41,16 +46,22 @@ impl<'a> Read for Stream<'a> {
     }
 }
 
-/// Takes at most `step` bytes for each write, and fails once with `error`, at the write numbered `failing` from 0. It has flushed `flushed`
-/// of the bytes taken.
+/// Takes at most `step` bytes for each write, and fails once with `error`, at the write numbered `failing` from 0.
 #[derive(Drop)]
 pub struct Sink {
+    /// The bytes that were written.
     pub taken: Vec<u8>,
+    /// The maximum number of bytes for each write.
     pub step: usize,
+    /// The number of the write that fails, from 0.
     pub failing: u32,
+    /// The error of the write that fails.
     pub error: ErrorKind,
+    /// How many writes were made.
     pub writes: u32,
+    /// How many flushes were made.
     pub flushes: u32,
+    /// How many of the bytes had been written at the last flush.
     pub flushed: usize,
 }
 

@@ -162,7 +162,7 @@ impl<'a> CaseReports<'a> {
         }
     }
 
-    // A report comes to what the case states: it is taken, or it is refused by a name and the packet before it stays as it was.
+    // Checks the result of a report against the case: it is taken, or it is refused by this name and the packet before it is unchanged.
     fn check(&self, reply: &Reply, reported: HostReported, is_kept: bool) -> Result<(), Trouble> {
         let refused = match reported {
             HostReported::Packet | HostReported::Taken | HostReported::Hidden => None,

@@ -17,8 +17,8 @@ use std::alloc::Global;
 use std::io::Cursor;
 use test_streams::Chunks;
 
-/// Feeds the chunks to a host's server, whose host makes the reports of the case. Then the input ends. What was not asked for is a line of the
-/// ending.
+/// Feeds the chunks to a host's server, whose host makes the reports of the case. Then the input ends. If the server did not ask for some of
+/// the reports, the ending has a line with their number.
 pub fn of_case(
     alloc: Global,
     setup: Setup,

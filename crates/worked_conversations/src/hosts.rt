@@ -29,9 +29,9 @@ pub enum Verdict {
     Refused(Vec<u8>),
 }
 
-/// What a host reports of its store.
+/// A host, by what it reports of its store.
 pub trait Reports {
-    /// A request came. Returns whether it is answered.
+    /// A request came. Returns whether the host accepts it.
     fn judge(&mut self, request: &RequestAtHand<'_, Global>) -> Result<Verdict, Trouble>;
 
     /// Reports what the server needs. Returns what came of the report.
@@ -90,7 +90,7 @@ impl<S: Reports> Host<S> {
         }
     }
 
-    // Reports what is needed. A server that is asked again before that asks for the same.
+    // Reports what is needed. Before that the server is called once more, and has to need the same.
     fn report(&mut self, need: Need, output: &mut Vec<u8>) -> Result<Option<Next>, Trouble> {
         if self.server.next() != HostStep::Need(need) {
             return Err(Trouble::Breaks("a host is asked for something else"));
@@ -101,7 +101,7 @@ impl<S: Reports> Host<S> {
         }
     }
 
-    // Takes one step of the server. None if nothing came of it that concerns the client.
+    // Takes one step of the server. Returns none if the client has nothing to send or to receive because of it.
     fn step(&mut self, output: &mut Vec<u8>) -> Result<Option<Next>, Trouble> {
         match self.server.next() {
             HostStep::Packet => self.sent(output),

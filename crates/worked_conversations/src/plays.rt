@@ -19,7 +19,7 @@ use test_streams::Sink;
 /// The bytes go over in chunks of at most this length, from 1 on.
 const SHORT: usize = 65;
 
-/// And in the longest chunks of the program.
+/// The maximum length of a chunk in the program `git2show`, with which the bytes go over once more.
 const LONGEST: usize = 65_536;
 
 /// How many bytes a response end has.

@@ -15,8 +15,8 @@ use std::alloc::{AllocError, Global};
 pub struct RepoReports<R> {
     alloc: Global,
     repo: R,
-    // What was reported for the request at hand: whether `HEAD` is unborn, so many references or lines of the boundary, and so many bytes
-    // of the pack.
+    // What was reported for the request at hand: whether an unborn `HEAD` was, how many references or lines of the boundary, and how many
+    // bytes of the pack.
     named_unborn: bool,
     count: usize,
     read: u64,
@@ -121,7 +121,7 @@ impl<R: Repo> RepoReports<R> {
         }
     }
 
-    // Reports that `HEAD` is unborn, if it is. None if it is not.
+    // Reports that `HEAD` is unborn. Returns none if it is not unborn.
     fn unborn(&self, server: &mut HostServer<Global>) -> Result<Option<HostReported>, Trouble> {
         let Some(target) = self.repo.unborn_head() else {
             return Ok(None);
