@@ -14,12 +14,12 @@ pub mod JudgedStages
 pub mod JudgedSteps
 pub mod JudgedReadings
 pub mod AdvertisementNoted
-pub mod Sendings
 pub mod PrettyTexts
 pub mod PrettyWidths
 pub mod PrettyPrintable
 pub mod JsonTexts
 pub mod Printing
+pub mod SourceEnds
 pub mod OnlyRequests
 pub mod ScriptLists
 pub mod Scripting
