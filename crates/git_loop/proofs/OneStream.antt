@@ -1,9 +1,9 @@
 -- A run over one reader and one writer.
-use Rattle.std.proofs.Common.{arith, ◌≡◌, ◌≢◌, inl, inr, ℕ, zero, suc, ◌+◌, ◌-◌, ◌≤◌, ◌^◌, min, Bool, true, false, Option, Some, None}
+use Rattle.std.proofs.Common.{arith, ◌≡◌, inl, inr, ℕ, zero, suc, ◌+◌, ◌-◌, ◌≤◌, ◌^◌, min, Bool, true, false, Option, Some, None}
 use Rattle.std.proofs.Common.{Result, Ok, Err, IfErr, IsTrue}
 use Rattle.std.proofs.Common.{List, [], ◌∷◌, ◌++◌, length, take, drop, take-append-drop, append_assoc, refl, sym, ap, ◌∙◌, subst}
 use Rattle.std.proofs.lemmas.List.{drop-drop, drop-take, length-take}
-use Rattle.std.specs.Io.KnownBytes.{Consumes, Keeps, prepend_known}
+use Rattle.std.specs.Io.KnownBytes.{Consumes, IsAtEnd, Keeps, prepend_known}
 use Rattle.git_pkt.specs.Machine.Engine.{FailsAs, IsShownBy, IsSpent}
 use Rattle.git_pkt.specs.Machine.Recorded.{IsNew, inner_of, reads_of, has_ended, has_failed, has_wasted}
 use Rattle.git_pkt.specs.Streams.{flow, WrittenAs}
@@ -11,8 +11,8 @@ use Rattle.git_pkt.specs.declared.fault.RunFault.{RunFault}
 use Rattle.git_pkt.specs.declared.fault.RunFault.TheVariants.{ReadFault, WriteFault, ReadLimit, Refused}
 use Rattle.git_pkt.specs.declared.recorded.Recorded.{Recorded}
 use Rattle.git_loop.specs.Moves.{ended_after, given_to, used_of}
-use Rattle.git_loop.specs.Streams.{Consumed, InputState, KeepsOthers, Sends, one_input, one_output, recorded_input, window_of}
-use Rattle.git_loop.specs.Machines.{EndStates, EndsRun, IsWaiting, RanOne, RanOver, RunStates, States, WaitsFor}
+use Rattle.git_loop.specs.Streams.{Consumed, EndsAtItsEnd, InputState, KeepsOthers, Sends, one_input, one_output, recorded_input, window_of}
+use Rattle.git_loop.specs.Machines.{AreReadToTheEnd, EndStates, EndsRun, IsWaiting, RanOne, RanOver, RunStates, States, WaitsFor}
 
 -- ---- the window
 
@@ -85,13 +85,21 @@ sends_first broken to bytes before after first written = record {
     others zero other = absurd (other (sym first))
     others (suc k) other = refl
 
-pub sends_none : (to : ℕ) (bytes : List ℕ) (contents : Option (List ℕ)) → to ≢ 0 → Sends false to bytes (one_output contents) (one_output contents)
-sends_none zero bytes contents other = absurd (other refl)
-sends_none (suc k) bytes contents other = record { written = tt; others = λ n h. refl }
-
 pub flushes_first : (before after : Option (List ℕ)) → Keeps before after → (k : ℕ) → Keeps (one_output before k) (one_output after k)
 flushes_first before after kept zero = kept
 flushes_first before after kept (suc k) = tt
+
+-- ---- the end
+
+at_end_behind : (window : List ℕ) (left : Option (List ℕ)) → IsAtEnd (prepend_known window left) → IsAtEnd left
+at_end_behind window None none = tt
+at_end_behind [] (Some bytes) none = none
+at_end_behind (b ∷ bs) (Some bytes) none = absurd (cc)
+
+pub ran_to_the_end : {R : Type 0} (remaining : R → Option (List ℕ)) (reader : Recorded R) (window : List ℕ)
+    → AreReadToTheEnd (λ k. k ≡ 0) (one_input (recorded_input remaining reader window))
+    → EndsAtItsEnd (has_ended reader) (remaining (inner_of reader))
+ran_to_the_end remaining reader window ends ended = at_end_behind window (remaining (inner_of reader)) (ends 0 refl ended)
 
 -- ---- the run
 

@@ -6,15 +6,15 @@ use Rattle.std.proofs.Common.{refl, sym, ap, ◌∙◌, subst}
 use Rattle.std.proofs.lemmas.Bool.{eqb-true, eqb-false}
 use Rattle.std.proofs.Math.Seq.{drop-nil}
 use Rattle.std.proofs.lemmas.List.{length-take-le}
-use Rattle.std.specs.Io.KnownBytes.{Keeps}
+use Rattle.std.specs.Io.KnownBytes.{IsAtEnd, Keeps}
 use Rattle.std.proofs.KnownBytes.{Consumes-nil, Consumes-trans, Consumes-kept}
 use Rattle.git_pkt.specs.Streams.{flow, is_broken, WrittenAs}
 use Rattle.git_pkt.specs.declared.fault.RunFault.{RunFault}
 use Rattle.git_pkt.proofs.EngineLemmas.{written_nothing, written_then, written_flushed, written_whole, at_fault}
 use Rattle.git_loop.specs.Moves.{Move, closed, gave, used, ended_after, given_to, ended_after-append, given_to-append, used_of-append}
-use Rattle.git_loop.specs.Streams.{Consumed, Fills, InputState, IsOpen, KeepsOthers, Sends, found_end}
-use Rattle.git_loop.specs.Machines.{AreSound, EndStates, EndsFlushed, FailedAlone, GivesPart, IsAt, IsNeeded, KnowsEnds, LeadBy, Moment, RanOver, Reading}
-use Rattle.git_loop.specs.Machines.{ReadsAsNeeded, ReadsNone, ReadsOnce, SameCalls, States, Uses, Views, Went, WentOn}
+use Rattle.git_loop.specs.Streams.{Consumed, EndsAtItsEnd, Fills, InputState, IsOpen, KeepsOthers, Sends, found_end}
+use Rattle.git_loop.specs.Machines.{AreSound, EndStates, EndsFlushed, FailedAlone, GivesPart, IsAt, IsNeeded, KeepsEmptyOnes, KnowsEnds, LeadBy}
+use Rattle.git_loop.specs.Machines.{Moment, RanOver, Reading, ReadsAsNeeded, ReadsNone, ReadsOnce, SameCalls, States, Uses, Views, Went, WentOn}
 use Rattle.git_loop.proofs.Numbers.{at_number, over_number}
 
 -- the fault that `?` returns is the one that it met
@@ -112,6 +112,39 @@ pub known_first : {has : ℕ → Type 0} (done : ℕ → Type 0) {first now : �
     → ((k : ℕ) → has k → IsOpen (first k)) → KnowsEnds has now done
 known_first done calls unended k exists ended =
     let e : true ≡ false = sym ended ∙ (calls k).ended ∙ (unended k exists).unended in absurd (cc)
+
+-- ---- where an input has ended, nothing is left of it
+
+-- if it has ended, no bytes wait of it, and no known byte is left
+abbrev IsSpentAtEnd : InputState → Type 0
+IsSpentAtEnd input = input.ended ≡ true → (input.window ≡ []) × IsAtEnd input.left
+
+abbrev pub AreSpentAtEnd : (ℕ → Type 0) → (ℕ → InputState) → Type 0
+AreSpentAtEnd has inputs = (k : ℕ) → has k → IsSpentAtEnd (inputs k)
+
+-- before the first read no input has ended
+pub spent_first : {has : ℕ → Type 0} {first now : ℕ → InputState} → ((k : ℕ) → SameCalls (first k) (now k)) → ((k : ℕ) → has k → IsOpen (first k))
+    → AreSpentAtEnd has now
+spent_first calls unended k exists ended = let e : true ≡ false = sym ended ∙ (calls k).ended ∙ (unended k exists).unended in absurd (cc)
+
+pub spent_read : {has : ℕ → Type 0} {first now : ℕ → InputState} (from : ℕ) {bytes : List ℕ} → (first from).window ≡ [] → Uses (first from) (now from) bytes
+    → EndsAtItsEnd (now from).ended (now from).left → KeepsOthers from first now → AreSpentAtEnd has first → AreSpentAtEnd has now
+spent_read {has} {first} {now} from {bytes} empty uses at_end others spent k exists = over_number k from true (λ (b : Bool). IsSpentAtEnd (now k))
+    (λ here. subst (λ (n : ℕ). IsSpentAtEnd (now n)) (sym here) (λ ended. (uses.emptied (λ e. empty) ended, at_end ended)))
+    (λ other. subst IsSpentAtEnd (sym (others k other)) (spent k exists))
+
+pub spent_so : {has : ℕ → Type 0} {first now : ℕ → InputState} → ((k : ℕ) → SameCalls (first k) (now k)) → KeepsEmptyOnes first now
+    → AreSpentAtEnd has first → AreSpentAtEnd has now
+spent_so calls kept spent k exists ended =
+    let before = spent k exists (sym (calls k).ended ∙ ended) in
+    subst (λ (i : InputState). (i.window ≡ []) × IsAtEnd i.left) (sym (kept k before.0)) before
+
+-- bytes that wait of the input of this number were used
+pub empty_consumed : (from : ℕ) {first mid now : ℕ → InputState} → KeepsEmptyOnes first mid → 0 < length (mid from).window → KeepsOthers from mid now
+    → KeepsEmptyOnes first now
+empty_consumed from {first} {mid} {now} so_far some others k empty =
+    let still : (mid k).window ≡ [] = ap (λ (i : InputState). i.window) (so_far k empty) ∙ empty in
+    others k (λ here. omega (arith, some, ap length (subst (λ (n : ℕ). (mid n).window ≡ []) here still))) ∙ so_far k empty
 
 -- a read of the input of this number was made, and no other one
 pub once_read : {first mid now : ℕ → InputState} (from : ℕ) → (mid from).reads ≤ (first from).reads + 1 → KeepsOthers from first mid

@@ -7,13 +7,13 @@ use Rattle.git_pkt.specs.declared.recorded.Recorded.{Recorded}
 use Rattle.git_pkt.specs.declared.fault.RunFault.{RunFault}
 use Rattle.git_pkt.specs.declared.fault.RunFault.TheVariants.{ReadFault, WriteFault, ReadLimit, Refused}
 use Rattle.git_loop.specs.Moves.{Move, gave, ended_after, given_to, used_of}
-use Rattle.git_loop.specs.Streams.{InputState, IsOpen}
+use Rattle.git_loop.specs.Streams.{EndsAtItsEnd, InputState, IsOpen}
 
 -- calls lead from the first state to the last, with these moves
 abbrev pub StateRelation : Type 0 → Type 1
 StateRelation M = M → List Move → M → Type 0
 
--- what a machine names of its states
+-- what an implementation of `Machine` names of its states, as far as a run's clauses speak of it
 pub record States (M : Type 0) : Type 1 where
   pub reaches : StateRelation M
   pub needs_input : M → ℕ → Type 0
@@ -21,6 +21,7 @@ pub record States (M : Type 0) : Type 1 where
   pub stopped_short : M → ℕ → Type 0
   pub reachable : M → Type 0
 
+-- those of a machine, from its ghost items
 abbrev pub states_of : {M : Type 0} → StateRelation M → (M → ℕ → Type 0) → (M → ℕ → Type 0) → (M → ℕ → Type 0) → (M → Type 0) → States M
 states_of reaches needs_input done_with stopped_short reachable = record {
   reaches = reaches;
@@ -38,15 +39,17 @@ pub record GivesPart {M : Type 0} (Reaches : StateRelation M) (Lends : M → Lis
 
 -- ---- some calls of a run
 
--- these bytes of an input were used. If it is still open, its reads brought at least a byte each.
+-- These bytes of an input were used, and no read of it was wasted. If it is still open, it was open before, and its reads brought no fewer bytes
+-- than there were reads. If no bytes waited of it where it had ended before, none wait where it has ended now.
 pub record Uses (old new : InputState) (bytes : List ℕ) : Type 0 where
   pub left : Consumes old.left new.left bytes
   pub useful : new.wasted ≡ old.wasted
   pub enough : IsOpen new → IsOpen old × (new.reads + length old.window ≤ old.reads + length bytes + length new.window)
   pub emptied : (old.ended ≡ true → old.window ≡ []) → new.ended ≡ true → new.window ≡ []
 
--- The machine went from the one state to the other. What it used left its inputs, what it gave was written to its outputs, and inputs
--- ended as the moves have it. If it stopped short of a byte, that byte waits.
+-- Moves led the machine from the one state to the other. What they used left the inputs, what they gave was written to the outputs (a prefix of
+-- that, if a write or a flush failed: `broken`), and the inputs that they closed have ended. The machine stays done with what it was done with. If it
+-- stopped short of a byte of an input, bytes of that wait, or it had stopped short of it before and what waits is as it was.
 pub record Went {M : Type 0} (states : States M) (broken : Bool) (old new : M) (first now : ℕ → InputState) (before after : ℕ → Option (List ℕ))
     : Type 0 where
   pub trace : List Move
@@ -63,10 +66,14 @@ abbrev pub IsAt : Option ℕ → (ℕ → Type 0) → Type 0 → Type 0
 IsAt (Some from) needs_input finished = needs_input from
 IsAt None needs_input finished = finished
 
--- no bytes wait of the input that it needs
+-- no bytes wait of the input that it needs, if it needs one
 abbrev pub HasNothing : Option ℕ → (ℕ → InputState) → Type 0
 HasNothing (Some from) inputs = (inputs from).window ≡ []
 HasNothing None inputs = Unit {0}
+
+-- an input stays as it is if no bytes of it wait
+abbrev pub KeepsEmptyOnes : (ℕ → InputState) → (ℕ → InputState) → Type 0
+KeepsEmptyOnes old new = (k : ℕ) → (old k).window ≡ [] → new k ≡ old k
 
 -- no read was made
 pub record SameCalls (old new : InputState) : Type 0 where
@@ -76,19 +83,19 @@ pub record SameCalls (old new : InputState) : Type 0 where
 
 -- ---- the reads of a run
 
--- how a run sees its inputs and outputs
+-- what a run's clauses see of its inputs and outputs
 pub record Views (I O : Type 0) : Type 0 where
   pub input : I → ℕ → InputState
   pub contents : O → ℕ → Option (List ℕ)
   pub flushed : O → Bool
 
--- a moment of a run
+-- a moment of a run: the machine, the inputs and the outputs as they then were
 pub record Moment (M I O : Type 0) : Type 0 where
   pub machine : M
   pub inputs : I
   pub outputs : O
 
--- a read of the input of this number, and the moment before it
+-- a read of the input of this number, and the moment just before it
 pub record Reading (M I O : Type 0) : Type 0 where
   pub at : Moment M I O
   pub from : ℕ
@@ -112,14 +119,15 @@ module _ {M I O : Type 0} (states : States M) (views : Views I O) where
     pub empty : (views.input reading.at.inputs reading.from).window ≡ []
     pub flushed : views.flushed reading.at.outputs ≡ true
 
-  -- a run led from the first moment to the last by these reads and no others, the last read first, and each was needed
+  -- A run led from the first moment to the last, and these are its reads, the last one first. Each was needed at its moment; from there to the
+  -- moment of the next one, or to the end, that one read was made and no other; and before the first one none was.
   abbrev pub LeadBy : Bool → Moment M I O → List (Reading M I O) → Moment M I O → Type 0
   LeadBy broken first [] now = WentOn broken first now × ReadsNone (views.input first.inputs) (views.input now.inputs)
   LeadBy broken first (reading ∷ earlier) now =
       LeadBy false first earlier reading.at × IsNeeded reading × WentOn broken reading.at now
       × ReadsOnce reading.from (views.input reading.at.inputs) (views.input now.inputs)
 
-  -- a run made a read only when it was needed
+  -- each read of a run was made at a moment at which it was needed
   pub record ReadsAsNeeded (broken : Bool) (first now : Moment M I O) : Type 0 where
     pub readings : List (Reading M I O)
     pub lead : LeadBy broken first readings now
@@ -129,6 +137,10 @@ module _ {M I O : Type 0} (states : States M) (views : Views I O) where
 -- the machine is done with each input that has ended
 abbrev pub KnowsEnds : (ℕ → Type 0) → (ℕ → InputState) → (ℕ → Type 0) → Type 0
 KnowsEnds has inputs done = (k : ℕ) → has k → (inputs k).ended ≡ true → done k
+
+-- where an input has reported its end, no known byte is left of it
+abbrev pub AreReadToTheEnd : (ℕ → Type 0) → (ℕ → InputState) → Type 0
+AreReadToTheEnd has inputs = (k : ℕ) → has k → EndsAtItsEnd (inputs k).ended (inputs k).left
 
 -- all that was sent was flushed, unless a write or a flush failed
 abbrev pub EndsFlushed : Result (Unit {0}) RunFault → Bool → Type 0
@@ -177,7 +189,7 @@ pub record EndStates : Type 1 where
   pub spent : Type 0
   pub write_failed : Bool
 
--- a run led its machine from the one state to the other, over its inputs and outputs
+-- a run led its machine from the one state to the other, over its inputs and outputs, and ended with this result
 pub record RanOver {M : Type 0} (states : States M) (at_end : EndStates) (has : ℕ → Type 0) (result : Result (Unit {0}) RunFault) (old new : M)
     (first now : ℕ → InputState) (before after : ℕ → Option (List ℕ)) : Type 0 where
   pub went : Went states (is_broken result) old new first now before after
@@ -193,7 +205,7 @@ pub record RunStates : Type 1 where
   pub stopped_short : Type 0
   pub stopped_short_before : Type 0
 
--- it finished; if it stopped short, a byte that it did not use was read, or it had stopped short before
+-- it has finished; if it stopped short, a byte that it did not use was read, or it had stopped short before the run
 pub record HasFinished (states : RunStates) (unused : List ℕ) : Type 0 where
   pub finished : states.finished
   pub short : states.stopped_short → (unused ≢ []) ⊎ states.stopped_short_before
@@ -224,7 +236,7 @@ pub record Ran {M : Type 0} (Reaches : StateRelation M) (old new : M) (states : 
   pub whole : ended_after 0 false trace ≡ true → (unused ≡ []) × (ended ≡ true)
   pub ends : EndsRun result states turns (used_of 0 trace) unused (ended_after 0 false trace)
 
--- a run led its machine from the one state to the other, over a reader and a writer
+-- the same of a reader and a writer, as far as it is known what the reader has left and what the writer holds
 abbrev pub RanOne : {M R W : Type 0} → (R → Option (List ℕ)) → (W → Option (List ℕ)) → StateRelation M → M → M → RunStates
     → Result (Unit {0}) RunFault → ℕ → Recorded R → Recorded R → Recorded W → Recorded W → Type 0
 RanOne remaining contents Reaches old new states result turns reader reader_after writer writer_after =

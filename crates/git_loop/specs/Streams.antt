@@ -1,7 +1,7 @@
 -- Inputs and outputs of a run, by their numbers: how each call changes them.
 use Rattle.std.specs.Prelude.{◌≡◌, ◌≢◌, ◌||◌, ℕ, zero, suc, ◌+◌, ◌-◌, ◌≤◌, ◌<◌, Bool, true, false, List, [], length, take, drop, Option}
 use Rattle.std.specs.Prelude.{None, Result, Ok, Err, is_err}
-use Rattle.std.specs.Io.KnownBytes.{Consumes, Keeps, prepend_known}
+use Rattle.std.specs.Io.KnownBytes.{Consumes, IsAtEnd, Keeps, prepend_known}
 use Rattle.git_pkt.specs.Streams.{flow, WrittenAs}
 use Rattle.git_pkt.specs.declared.fault.RunFault.{RunFault}
 use Rattle.git_pkt.specs.declared.recorded.Recorded.{Recorded}
@@ -22,6 +22,10 @@ pub record IsOpen (input : InputState) : Type 0 where
   pub sound : input.failed ≡ false
   pub unended : input.ended ≡ false
 
+-- if the end was reported, no known byte is left
+abbrev pub EndsAtItsEnd : Bool → Option (List ℕ) → Type 0
+EndsAtItsEnd ended left = ended ≡ true → IsAtEnd left
+
 -- what a read brought into the window: bytes, or none at the end
 abbrev pub Brings : Result Bool RunFault → List ℕ → Type 0
 Brings (Ok true) window = 0 < length window
@@ -37,6 +41,7 @@ found_end (Err fault) = false
 pub record Fills (result : Result Bool RunFault) (old new : InputState) : Type 0 where
   pub kept : Keeps old.left new.left
   pub brings : Brings result new.window
+  pub at_end : EndsAtItsEnd (found_end result) new.left
   pub counted : new.reads ≤ old.reads + 1
   pub failed : new.failed ≡ (old.failed || is_err result)
   pub ended : new.ended ≡ (old.ended || found_end result)

@@ -2,16 +2,16 @@
 
 ghost use Rattle.std.specs.Prelude.{◌≡◌, ◌≢◌, ◌≤◌, ◌<◌, ◌⊎◌, ◌||◌, ◌+◌, min, ℕ, List, Option, [], ◌∷◌, length, true, false, IsTrue, IfOk};
 ghost use Rattle.std.specs.Prelude.{IfErr, OnErr, OnOk, is_err, Err};
-ghost use Rattle.git_pkt.specs.Machine.Recorded.{reads_of, has_failed, has_wasted, IsNew};
+ghost use Rattle.git_pkt.specs.Machine.Recorded.{inner_of, reads_of, has_ended, has_failed, has_wasted, IsNew};
 ghost use Rattle.git_pkt.specs.Machine.Engine.{FailsAs, IsShownBy, IsSpent};
 ghost use Rattle.git_pkt.specs.Streams.{is_broken};
-ghost use Rattle.git_loop.specs.Streams.{InputState, IsOpen, KeepsOthers};
-ghost use Rattle.git_loop.specs.Machines.{EndsFlushed, HasNothing, IsAt, KnowsEnds, RanOne, RanOver, ReadsAsNeeded, SameCalls, WaitsFor, Went};
-ghost use Rattle.git_loop.specs.Machines.{states_of};
-ghost use Rattle.git_loop.specs.OneStreams.{waiting_in};
+ghost use Rattle.git_loop.specs.Streams.{EndsAtItsEnd, InputState, IsOpen, KeepsOthers};
+ghost use Rattle.git_loop.specs.Machines.{AreReadToTheEnd, EndsFlushed, HasNothing, IsAt, KeepsEmptyOnes, KnowsEnds, RanOne, RanOver, ReadsAsNeeded};
+ghost use Rattle.git_loop.specs.Machines.{SameCalls, WaitsFor, Went, states_of};
+ghost use Rattle.git_loop.specs.OneStreams.{HaveSameReader, HaveSameWriter, reader_of, waiting_in, writer_of};
 
 use crate::machine::{Machine, Next};
-use crate::streams::{FirstOutput, Inputs, OneInput, Outputs};
+use crate::streams::{Inputs, OneInput, OneOutput, Outputs};
 use git_pkt::{Recorded, RunFault};
 use std::io::{Read, Write};
 
@@ -56,6 +56,7 @@ fn read_more<M: Machine, I: Inputs>(
         false machine.old machine.new (I.input inputs.old) (I.input inputs.new) held held }
     ensures holds { OnOk result (M.holds machine.new []) }
     ensures ended { (I.input inputs.new from).ended ≡ true → M.done_with machine.new from }
+    ensures at_end { EndsAtItsEnd (I.input inputs.new from).ended (I.input inputs.new from).left }
     ensures unread { OnErr result ((machine.new ≡ machine.old) × WaitsFor (M.needs_input machine.new) (I.input inputs.new) from) }
     ensures failed { (I.input inputs.new from).failed ≡ ((I.input inputs.old from).failed || is_err result) }
     ensures others { KeepsOthers from (I.input inputs.old) (I.input inputs.new) }
@@ -90,6 +91,7 @@ fn advance<M: Machine, I: Inputs, O: Outputs>(
     ensures at { IfOk result (λ next. IsAt next (M.needs_input machine.new) (M.finished machine.new)) }
     ensures nothing { IfOk result (λ next. HasNothing next (I.input inputs.new)) }
     ensures calls { (k : ℕ) → SameCalls (I.input inputs.old k) (I.input inputs.new k) }
+    ensures empty_kept { KeepsEmptyOnes (I.input inputs.old) (I.input inputs.new) }
     ensures counted { I.reads inputs.new ≡ I.reads inputs.old }
     ensures fault { IfErr result (λ fault. fault ≡ RunFault.WriteFault) }
     ensures failed { O.failed outputs.new ≡ (O.failed outputs.old || is_err result) }
@@ -145,6 +147,7 @@ pub fn run_streams<M: Machine, I: Inputs, O: Outputs>(
         (record { machine = machine.new; inputs = inputs.new; outputs = outputs.new }) }
     ensures flushed { EndsFlushed result (O.flushed outputs.new) }
     ensures ends_known { KnowsEnds I.has (I.input inputs.new) (M.done_with machine.new) }
+    ensures at_end { AreReadToTheEnd I.has (I.input inputs.new) }
     ensures same_readers { I.same_readers inputs.old inputs.new }
     ensures same_writers { O.same_writers outputs.old outputs.new }
 {
@@ -164,8 +167,8 @@ pub fn run_streams<M: Machine, I: Inputs, O: Outputs>(
     }
 }
 
-/// Runs a machine that needs only the input 0, from its current state, over a reader, and over a writer of what it gives to the output 0,
-/// until it has finished. Makes at most `turns` reads, each into the whole buffer, which may not be empty. Flushes the writer before each
+/// Runs a machine that needs only the input 0 and gives only to the output 0, from its current state, over a reader and a writer, until it
+/// has finished. Makes at most `turns` reads, each into the whole buffer, which may not be empty. Flushes the writer before each
 /// read and at the end.
 ///
 /// Returns `ReadFault` if a read fails, `WriteFault` if a write or a flush fails, and `ReadLimit` if one more read than
@@ -179,6 +182,7 @@ pub fn run<M: Machine, R: Read, W: Write>(
     turns: u64,
 ) -> Result<(), RunFault>
     requires one { (m : M) (k : ℕ) → M.needs_input m k → k ≡ 0 }
+    requires gives { (m : M) (to : ℕ) → M.gives_to m to → to ≡ 0 }
     requires holds { M.holds machine.old [] }
     requires space { 0 < length buffer.old }
     requires new_reader { IsNew reader.old }
@@ -186,6 +190,7 @@ pub fn run<M: Machine, R: Read, W: Write>(
 
     ensures reads { reads_of reader.new ≤ turns }
     ensures useful { has_wasted reader.new ≡ false }
+    ensures at_end { EndsAtItsEnd (has_ended reader.new) (R.remaining (inner_of reader.new)) }
     ensures ran { RanOne R.remaining W.contents M.reaches machine.old machine.new (record {
       needs_input = M.needs_input machine.new 0;
       finished = M.finished machine.new;
@@ -196,10 +201,7 @@ pub fn run<M: Machine, R: Read, W: Write>(
     ensures failed { FailsAs result (has_failed reader.new) (has_failed writer.new) }
 {
     let mut input = OneInput::new(reader, buffer);
-    let mut output = FirstOutput {
-        writer,
-        flushed: false,
-    };
+    let mut output = OneOutput::new(writer);
     run_one(machine, &mut input, &mut output, turns)
 }
 
@@ -207,29 +209,30 @@ pub fn run<M: Machine, R: Read, W: Write>(
 fn run_one<M: Machine, R: Read, W: Write>(
     machine: &mut M,
     input: &mut OneInput<'_, R>,
-    output: &mut FirstOutput<'_, W>,
+    output: &mut OneOutput<'_, W>,
     turns: u64,
 ) -> Result<(), RunFault>
     requires one { (m : M) (k : ℕ) → M.needs_input m k → k ≡ 0 }
+    requires gives { (m : M) (to : ℕ) → M.gives_to m to → to ≡ 0 }
     requires holds { M.holds machine.old [] }
     requires empty { waiting_in input.old ≡ [] }
-    requires new_reader { IsNew input.old.reader.now }
-    requires sound_writer { has_failed output.old.writer.now ≡ false }
+    requires new_reader { IsNew (reader_of input.old) }
+    requires sound_writer { has_failed (writer_of output.old) ≡ false }
 
-    ensures reads { reads_of input.new.reader.now ≤ turns }
-    ensures useful { has_wasted input.new.reader.now ≡ false }
+    ensures reads { reads_of (reader_of input.new) ≤ turns }
+    ensures useful { has_wasted (reader_of input.new) ≡ false }
+    ensures at_end { EndsAtItsEnd (has_ended (reader_of input.new)) (R.remaining (inner_of (reader_of input.new))) }
     ensures ran { RanOne R.remaining W.contents M.reaches machine.old machine.new (record {
       needs_input = M.needs_input machine.new 0;
       finished = M.finished machine.new;
       stopped_short = M.reachable machine.old × M.stopped_short machine.new 0;
       stopped_short_before = M.stopped_short machine.old 0;
-    }) result turns input.old.reader.now input.new.reader.now output.old.writer.now output.new.writer.now }
-    ensures fault { IfErr result (IsShownBy (IsTrue (has_failed input.new.reader.now)) (IsTrue (has_failed output.new.writer.now))
-        (IsSpent input.new.reader.now turns)) }
-    ensures failed { FailsAs result (has_failed input.new.reader.now) (has_failed output.new.writer.now) }
-    ensures same_reader { input.new.reader.ghost_name ≡ input.old.reader.ghost_name }
-    ensures same_buffer { input.new.buffer.ghost_name ≡ input.old.buffer.ghost_name }
-    ensures same_writer { output.new.writer.ghost_name ≡ output.old.writer.ghost_name }
+    }) result turns (reader_of input.old) (reader_of input.new) (writer_of output.old) (writer_of output.new) }
+    ensures fault { IfErr result (IsShownBy (IsTrue (has_failed (reader_of input.new))) (IsTrue (has_failed (writer_of output.new)))
+        (IsSpent (reader_of input.new) turns)) }
+    ensures failed { FailsAs result (has_failed (reader_of input.new)) (has_failed (writer_of output.new)) }
+    ensures same_reader { HaveSameReader input.old input.new }
+    ensures same_writer { HaveSameWriter output.old output.new }
 {
     run_streams(machine, input, output, turns)
 }

@@ -28,8 +28,8 @@ pub trait Inputs {
         requires { has from }
         ensures { result.now ≡ (input self.now from).window };
 
-    /// Reads once, of an input that has no bytes waiting. Returns whether any came: there are none at the end. The fault is `ReadFault`,
-    /// exactly if the read fails.
+    /// Reads once, of an input that has no bytes waiting. Returns whether any came: none come at the end, and only there. The fault is
+    /// `ReadFault`, exactly if the read fails.
     fn fill(&mut self, from: u8) -> Result<bool, RunFault>
         requires exists { has from }
         requires empty { (input self.old from).window ≡ [] }
@@ -106,15 +106,15 @@ pub struct OneInput<'a, R> {
 }
 
 impl<'a, R: Read> OneInput<'a, R> {
-    ghost use Rattle.git_loop.specs.OneStreams.{reader_of, waiting_in};
+    ghost use Rattle.git_loop.specs.OneStreams.{ReadsFrom, ReadsInto, reader_of, waiting_in};
 
     /// The input of a reader, with no bytes waiting. Each read goes into the whole buffer, which may not be empty.
     pub fn new(reader: &'a mut Recorded<R>, buffer: &'a mut [u8]) -> OneInput<'a, R>
         requires space { 0 < length buffer.old }
         ensures reader { reader_of result ≡ reader.old }
         ensures empty { waiting_in result ≡ [] }
-        ensures same_reader { result.reader.ghost_name ≡ reader.entry.ghost_name }
-        ensures same_buffer { result.buffer.ghost_name ≡ buffer.entry.ghost_name }
+        ensures reads_from { ReadsFrom result reader.entry }
+        ensures reads_into { ReadsInto result buffer.entry }
     {
         OneInput {
             reader,
@@ -178,13 +178,13 @@ pub struct OneOutput<'a, W> {
 }
 
 impl<'a, W: Write> OneOutput<'a, W> {
-    ghost use Rattle.git_loop.specs.OneStreams.{is_flushed, writer_of};
+    ghost use Rattle.git_loop.specs.OneStreams.{WritesTo, is_flushed, writer_of};
 
     /// The output to a writer.
     pub fn new(writer: &'a mut Recorded<W>) -> OneOutput<'a, W>
         ensures writer { writer_of result ≡ writer.old }
         ensures unflushed { is_flushed result ≡ false }
-        ensures same_writer { result.writer.ghost_name ≡ writer.entry.ghost_name }
+        ensures writes_to { WritesTo result writer.entry }
     {
         OneOutput {
             writer,
@@ -212,43 +212,6 @@ impl<'a, W: Write> Outputs for OneOutput<'a, W> {
 
     fn send(&mut self, to: u8, bytes: &[u8]) -> Result<(), RunFault> {
         self.flushed = false;
-        send(self.writer, bytes)
-    }
-
-    fn flush(&mut self) -> Result<(), RunFault> {
-        flush(self.writer)?;
-        self.flushed = true;
-        Ok(())
-    }
-}
-
-/// The output of the number 0 of a machine whose other outputs are let go.
-#[derive(Drop)]
-pub(crate) struct FirstOutput<'a, W> {
-    pub(crate) writer: &'a mut Recorded<W>,
-    pub(crate) flushed: bool,
-}
-
-impl<'a, W: Write> Outputs for FirstOutput<'a, W> {
-    ghost has = { λ k. Unit {0} };
-
-    ghost contents = { λ one k. one_output (W.contents (inner_of one.writer.now)) k };
-
-    ghost failed = { λ one. has_failed one.writer.now };
-
-    ghost flushed = { λ one. one.flushed };
-
-    ghost same_writers = { λ old new. new.writer.ghost_name ≡ old.writer.ghost_name };
-
-    ghost same_itself = { λ one. refl };
-
-    ghost same_further = { λ old middle new first second. second ∙ first };
-
-    fn send(&mut self, to: u8, bytes: &[u8]) -> Result<(), RunFault> {
-        self.flushed = false;
-        if to > 0 {
-            return Ok(());
-        }
         send(self.writer, bytes)
     }
 

@@ -1,5 +1,5 @@
 use Rattle.std.proofs.Common.{rules, true, false, inl, inr, ◌<◌, length, refl}
-use Rattle.git_loop.proofs.RunLemmas.{calls_consumed, none_needed, on_err_at, same_calls, turn_less, went_fed, went_then}
+use Rattle.git_loop.proofs.RunLemmas.{calls_consumed, empty_consumed, none_needed, on_err_at, same_calls, turn_less, went_fed, went_then}
 use Rattle.git_loop.proofs.running.advance.Goals as goal
 
 pub returns-in_err-next-2-clause-front : goal.returns-in_err-next-2-clause-front
@@ -18,6 +18,7 @@ loop-next-init g c = record {
   failed = search rules;
   counted = refl;
   calls = λ k. same_calls _;
+  empty_kept = λ k empty. refl;
   same_readers = g.met.I.Inputs.same_itself _;
   same_writers = c.in_ok-next.ensures.same_writers;
   went = c.in_ok-next.ensures.ok _;
@@ -35,6 +36,7 @@ loop-next-smaller g c =
 
 pub loop-next-preserved : goal.loop-next-preserved
 loop-next-preserved g c =
+    let some : 0 < length c.window-chunk.result.now = search rules in
     let fed = went_fed _ c.in-Some.from c.feed-used.result (g.O.Outputs.contents c.loop-next.outputs)
     (rw c.window-chunk.ensures at c.feed-used.ensures.reaches) (rw c.window-chunk.ensures at c.feed-used.ensures.used)
     c.consume.ensures.consumed c.consume.ensures.others c.feed-used.ensures.done (rw c.window-chunk.ensures at c.feed-used.ensures.short)
@@ -44,6 +46,7 @@ loop-next-preserved g c =
       failed = search rules;
       counted = search rules;
       calls = calls_consumed c.in-Some.from c.feed-used.result c.loop-next.invariant.calls c.consume.ensures.consumed c.consume.ensures.others;
+      empty_kept = empty_consumed c.in-Some.from c.loop-next.invariant.empty_kept (rw c.window-chunk.ensures at some) c.consume.ensures.others;
       same_readers = g.met.I.Inputs.same_further _ _ _ c.loop-next.invariant.same_readers c.consume.ensures.same_readers;
       same_writers = g.met.O.Outputs.same_further _ _ _ c.loop-next.invariant.same_writers c.in_ok-next-2.ensures.same_writers;
       went = went_then _ g.met.M.Machine.reaches_further g.met.M.Machine.stays_reachable false c.loop-next.invariant.went

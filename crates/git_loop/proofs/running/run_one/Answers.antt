@@ -1,6 +1,6 @@
 use Rattle.std.proofs.Common.{rules}
 use Rattle.git_loop.specs.OneStreams.{waiting_in}
-use Rattle.git_loop.proofs.OneStream.{ran_fails, ran_one, ran_shown, ran_useful}
+use Rattle.git_loop.proofs.OneStream.{ran_fails, ran_one, ran_shown, ran_to_the_end, ran_useful}
 use Rattle.git_loop.proofs.running.run_one.Goals as goal
 
 pub returns-clause-useful : goal.returns-clause-useful
@@ -9,6 +9,10 @@ returns-clause-useful g c =
     c.run_streams.new.inputs.reader.now c.args.output.now.writer.now c.run_streams.new.outputs.writer.now _
     (waiting_in c.run_streams.new.inputs) c.requires.empty _
     c.run_streams.ensures.ran c.requires.new_reader
+
+pub returns-clause-at_end : goal.returns-clause-at_end
+returns-clause-at_end g c =
+    ran_to_the_end g.R.Read.remaining c.run_streams.new.inputs.reader.now (waiting_in c.run_streams.new.inputs) c.run_streams.ensures.at_end
 
 pub returns-clause-ran : goal.returns-clause-ran
 returns-clause-ran g c =

@@ -1,7 +1,8 @@
 use Rattle.std.proofs.Common.{rules, true, false, refl, ℕ, []}
 use Rattle.git_pkt.specs.declared.fault.RunFault.TheVariants.{ReadFault, WriteFault}
 use Rattle.git_loop.proofs.RunLemmas.{failed_alone, flushed_at, known_first, known_read, known_so, once_read, ran_at, reads_at, reads_no_more, reads_once_more}
-use Rattle.git_loop.proofs.RunLemmas.{same_calls, same_reads, sound_read, sound_so, went_flushed, went_then}
+use Rattle.git_loop.proofs.RunLemmas.{same_calls, same_reads, sound_read, sound_so, spent_first, spent_read, spent_so, went_flushed}
+use Rattle.git_loop.proofs.RunLemmas.{went_then}
 use Rattle.git_loop.proofs.running.run_streams.Goals as goal
 
 -- ---- before the first read
@@ -22,6 +23,7 @@ loop-init g c = record {
   all = search rules;
   sound = sound_so c.in_ok-next.ensures.calls (λ k exists. (c.requires.open_inputs k exists).sound);
   known = known_first _ c.in_ok-next.ensures.calls c.requires.open_inputs;
+  spent = spent_first c.in_ok-next.ensures.calls c.requires.open_inputs;
   sound_outputs = search rules;
   same_readers = c.in_ok-next.ensures.same_readers;
   same_writers = c.in_ok-next.ensures.same_writers;
@@ -82,6 +84,10 @@ loop-preserved g c =
           (sound_read c.in-Some.from c.in_ok-read_more.ensures.failed c.in_ok-read_more.ensures.others c.loop.invariant.sound);
       known = known_so c.in_ok-next-2.ensures.calls c.in_ok-next-2.ensures.ok.done
           (known_read c.in-Some.from c.in_ok-read_more.ensures.ended c.in_ok-read_more.ensures.others after c.loop.invariant.known);
+      spent = spent_so c.in_ok-next-2.ensures.calls c.in_ok-next-2.ensures.empty_kept
+          (spent_read c.in-Some.from (rw c.in-Some.is at c.loop.invariant.nothing)
+          ((c.in_ok-read_more.ensures.went (g.O.Outputs.contents c.loop.outputs)).used c.in-Some.from) c.in_ok-read_more.ensures.at_end
+          c.in_ok-read_more.ensures.others c.loop.invariant.spent);
       sound_outputs = search rules;
       same_readers = g.met.I.Inputs.same_further _ _ _ (g.met.I.Inputs.same_further _ _ _ c.loop.invariant.same_readers
           c.in_ok-read_more.ensures.same_readers) c.in_ok-next-2.ensures.same_readers;
@@ -190,6 +196,26 @@ returns-in_err-next-2-clause-ends_known g c =
     known_so c.in_err-next-2.ensures.calls c.in_err-next-2.ensures.front.done
     (known_read c.in-Some.from c.in_ok-read_more.ensures.ended c.in_ok-read_more.ensures.others
     (c.in_ok-read_more.ensures.went (g.O.Outputs.contents c.loop.outputs)).done c.loop.invariant.known)
+
+-- ---- what is left where they ended
+
+pub returns-in_err-next-clause-at_end : goal.returns-in_err-next-clause-at_end
+returns-in_err-next-clause-at_end g c = λ k exists ended. (spent_first c.in_err-next.ensures.calls c.requires.open_inputs k exists ended).1
+
+pub returns-in_err-read_more-clause-at_end : goal.returns-in_err-read_more-clause-at_end
+returns-in_err-read_more-clause-at_end g c =
+    let spent = spent_read c.in-Some.from (rw c.in-Some.is at c.loop.invariant.nothing)
+    ((c.in_err-read_more.ensures.went (g.O.Outputs.contents c.loop.outputs)).used c.in-Some.from) c.in_err-read_more.ensures.at_end
+    c.in_err-read_more.ensures.others c.loop.invariant.spent in
+    λ k exists ended. (spent k exists ended).1
+
+pub returns-in_err-next-2-clause-at_end : goal.returns-in_err-next-2-clause-at_end
+returns-in_err-next-2-clause-at_end g c =
+    let spent = spent_so c.in_err-next-2.ensures.calls c.in_err-next-2.ensures.empty_kept
+    (spent_read c.in-Some.from (rw c.in-Some.is at c.loop.invariant.nothing)
+    ((c.in_ok-read_more.ensures.went (g.O.Outputs.contents c.loop.outputs)).used c.in-Some.from) c.in_ok-read_more.ensures.at_end
+    c.in_ok-read_more.ensures.others c.loop.invariant.spent) in
+    λ k exists ended. (spent k exists ended).1
 
 -- ---- the last flush
 

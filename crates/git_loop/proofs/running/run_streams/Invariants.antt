@@ -1,7 +1,8 @@
--- Each turn is one read that was needed, nothing has failed, the machine is done with each input that has ended, and all that it gave for
--- what it used was written.
+-- Each turn is one read that was needed, nothing has failed, the machine is done with each input that has ended, nothing is left of
+-- that, and all that it gave for what it used was written.
 use Rattle.std.proofs.Common.{◌≡◌, ◌≤◌, ◌+◌, ◌-◌, ◌^◌, min, false}
 use Rattle.git_loop.specs.Machines.{states_of, AreSound, HasNothing, IsAt, KnowsEnds, ReadsAsNeeded, Went}
+use Rattle.git_loop.proofs.RunLemmas.{AreSpentAtEnd}
 use Rattle.git_loop.proofs.running.run_streams.Given as goal
 
 abbrev pub invariant-loop : goal.invariant-loop
@@ -12,6 +13,7 @@ invariant-loop g l = record {
   all : min (g.I.Inputs.reads l.fn.inputs + l.counter) (2 ^ 64 - 1) ≤ g.I.Inputs.reads l.inputs;
   sound : AreSound g.I.Inputs.has (g.I.Inputs.input l.inputs);
   known : KnowsEnds g.I.Inputs.has (g.I.Inputs.input l.inputs) (g.M.Machine.done_with l.machine);
+  spent : AreSpentAtEnd g.I.Inputs.has (g.I.Inputs.input l.inputs);
   sound_outputs : g.O.Outputs.failed l.outputs ≡ false;
   same_readers : g.I.Inputs.same_readers l.fn.inputs l.inputs;
   same_writers : g.O.Outputs.same_writers l.fn.outputs l.outputs;
