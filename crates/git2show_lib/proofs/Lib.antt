@@ -19,7 +19,6 @@ pub mod PrettyWidths
 pub mod PrettyPrintable
 pub mod JsonTexts
 pub mod Printing
-pub mod SourceEnds
 pub mod OnlyRequests
 pub mod ScriptLists
 pub mod Scripting

@@ -19,6 +19,7 @@ use Rattle.git_pkt.specs.declared.fault.RunFault.{RunFault}
 use Rattle.git_pkt.specs.declared.fault.RunFault.TheVariants.{ReadFault, WriteFault, ReadLimit, Refused}
 use Rattle.git_pkt.specs.declared.reader.PacketReader.{PacketReader}
 use Rattle.git_pkt.proofs.EngineLemmas.{AppendsFront-longer, at_fault}
+use Rattle.git_loop.specs.Carried.{carries_itself}
 use Rattle.git_loop.specs.Machines.{GivesPart, HasFinished, Ran, RunStates}
 use Rattle.git_loop.specs.Moves.{closed, gave, used, ended_after, given_to, used_of}
 use Rattle.git2show_lib.specs.PacketLines.{line_of, lines_of}
@@ -26,7 +27,7 @@ use Rattle.git2show_lib.specs.PacketViews.{after, shown, tally_of, viewed}
 use Rattle.git2show_lib.specs.declared.views.Tally.{Tally}
 use Rattle.git2show_lib.specs.declared.views.View.{View}
 use Rattle.git2show_lib.specs.Machine.HeldLines.{HeldLines}
-use Rattle.git2show_lib.specs.Machine.ShowerStates.{Gathers, HasShown, IsTooLong, ShowerReaches, StandsIn, Waits, fault_in, is_over, reaches_itself, waits_in_time}
+use Rattle.git2show_lib.specs.Machine.ShowerStates.{Beginning, Gathers, HasShown, IsTooLong, ShowerReaches, StandsIn, Waits, fault_in, is_over, waits_in_time}
 use Rattle.git2show_lib.specs.Machine.ShownStream.{EndsAs, Shows, ShowsView}
 use Rattle.git2show_lib.specs.declared.shower.Phase.{Phase}
 use Rattle.git2show_lib.specs.declared.shower.Phase.TheVariants.{Gathering, Stopped, Closed}
@@ -137,6 +138,10 @@ pub used_some : {fault : Option Fault} (count : ℕ) → fault ≡ None → (0 <
 used_some count none (inl uses) = uses
 used_some count none (inr some) = let no : IsSome {T = Fault} None = subst IsSome none some in absurd (cc)
 
+pub over_in : {phase : Phase} → ((f : Fault) × (phase ≡ Stopped f)) ⊎ (phase ≡ Closed) → is_over phase ≡ true
+over_in (inl (f, at)) = ap is_over at
+over_in (inr at) = ap is_over at
+
 module _ {V : Type 0} (view_of : V → Option View) (s : Shower V) where
   -- no line waited
   pub stays : (lines : HeldLines) → lines ≡ s.lines
@@ -144,7 +149,7 @@ module _ {V : Type 0} (view_of : V → Option View) (s : Shower V) where
   stays lines same =
       subst (λ (l : HeldLines).
       ShowerReaches view_of s [] (record { packets = s.packets; lines = l; renderer = s.renderer; tally = s.tally; phase = s.phase }))
-      (sym same) (reaches_itself view_of s)
+      (sym same) (carries_itself (HasShown view_of) s)
 
   -- the lines were lent
   pub gives_part : (to : ℕ) (lines : HeldLines) → to ≡ 0 → lines.waiting ≡ [] → lines.lent ≡ s.lines.waiting
@@ -156,8 +161,8 @@ module _ {V : Type 0} (view_of : V → Option View) (s : Shower V) where
       record {
         bytes = w;
         lent = sym lent;
-        reaches = subst (λ (n : ℕ). ShowerReaches view_of s (gave n w ∷ []) new) (sym first) (λ view start so_far over given h.
-            subst (λ (l : List ℕ). HasShown view_of view start l over (given ++ (w ++ [])) new) (sym (append-nil so_far)) (record {
+        reaches = subst (λ (n : ℕ). ShowerReaches view_of s (gave n w ∷ []) new) (sym first) (λ begun so_far over given h.
+            subst (λ (l : List ℕ). HasShown view_of begun l over (given ++ (w ++ [])) new) (sym (append-nil so_far)) (record {
               packets = h.packets;
               rest = h.rest;
               by = h.by;
@@ -175,10 +180,10 @@ module _ {V : Type 0} (view_of : V → Option View) (s : Shower V) where
     after_it = record { packets = packets; lines = lines; renderer = s.renderer; tally = final; phase = phase }
 
     -- it went on over these bytes
-    went_on : (view : Option View) (start : Tally) (so_far : List ℕ) (over now : Bool) (given : List ℕ) → StandsIn phase packets now
-        → HasShown view_of view start so_far over given s → HasShown view_of view start (so_far ++ bytes) now given after_it
-    went_on view start so_far over now given stands h =
-        let more : Gathers view s.tally final s.packets packets bytes s.lines.waiting lines.waiting =
+    went_on : (begun : Beginning) (so_far : List ℕ) (over now : Bool) (given : List ℕ) → StandsIn phase packets now
+        → HasShown view_of begun so_far over given s → HasShown view_of begun (so_far ++ bytes) now given after_it
+    went_on begun so_far over now given stands h =
+        let more : Gathers begun.view s.tally final s.packets packets bytes s.lines.waiting lines.waiting =
         subst (λ (v : Option View). Gathers v s.tally final s.packets packets bytes s.lines.waiting lines.waiting) h.by gathers in
         let (rest, reads) = more.reads 0 so_far h.packets h.rest h.reads in
         record {
@@ -187,20 +192,20 @@ module _ {V : Type 0} (view_of : V → Option View) (s : Shower V) where
           by = h.by;
           reads = reads;
           lines = ap (λ (l : List ℕ). given ++ l) more.lines
-              ∙ sym (append_assoc given s.lines.waiting (shown view s.tally more.packets))
-              ∙ ap (λ (l : List ℕ). l ++ shown view s.tally more.packets) h.lines
-              ∙ sym (shown-then view start h.packets more.packets h.tally);
-          tally = tally-then view start h.packets more.packets h.tally more.tally;
+              ∙ sym (append_assoc given s.lines.waiting (shown begun.view s.tally more.packets))
+              ∙ ap (λ (l : List ℕ). l ++ shown begun.view s.tally more.packets) h.lines
+              ∙ sym (shown-then begun.view begun.tally h.packets more.packets h.tally);
+          tally = tally-then begun.view begun.tally h.packets more.packets h.tally more.tally;
           stands = stands;
         }
 
     pub reaches_used : (from : ℕ) → from ≡ 0 → ((over : Bool) → StandsIn phase packets over)
         → ShowerReaches view_of s (used from bytes ∷ []) after_it
     reaches_used from first stands =
-        subst (λ (n : ℕ). ShowerReaches view_of s (used n bytes ∷ []) after_it) (sym first) (λ view start so_far over given h.
-        subst (λ (l : List ℕ). HasShown view_of view start (so_far ++ l) over (given ++ []) after_it) (sym (append-nil bytes))
-        (subst (λ (l : List ℕ). HasShown view_of view start (so_far ++ bytes) over l after_it) (sym (append-nil given))
-        (went_on view start so_far over over given (stands over) h)))
+        subst (λ (n : ℕ). ShowerReaches view_of s (used n bytes ∷ []) after_it) (sym first) (λ begun so_far over given h.
+        subst (λ (l : List ℕ). HasShown view_of begun (so_far ++ l) over (given ++ []) after_it) (sym (append-nil bytes))
+        (subst (λ (l : List ℕ). HasShown view_of begun (so_far ++ bytes) over l after_it) (sym (append-nil given))
+        (went_on begun so_far over over given (stands over) h)))
 
   -- the input ended
   pub reaches_closed : (from : ℕ) (packets : PacketReader) (phase : Phase) → from ≡ 0 → ReadsOn s.packets [] [] packets → StandsIn phase packets true
@@ -210,9 +215,9 @@ module _ {V : Type 0} (view_of : V → Option View) (s : Shower V) where
       let new : Shower V = record { packets = packets; lines = s.lines; renderer = s.renderer; tally = s.tally; phase = phase } in
       let none : Gathers (view_of s.renderer) s.tally s.tally s.packets packets [] s.lines.waiting s.lines.waiting =
       record { packets = []; reads = carries; lines = sym (append-nil s.lines.waiting); tally = refl } in
-      subst (λ (n : ℕ). ShowerReaches view_of s (closed n ∷ []) new) (sym first) (λ view start so_far over given h.
-      subst (λ (l : List ℕ). HasShown view_of view start (so_far ++ []) true l new) (sym (append-nil given))
-      (went_on s.lines phase none view start so_far over true given stands h))
+      subst (λ (n : ℕ). ShowerReaches view_of s (closed n ∷ []) new) (sym first) (λ begun so_far over given h.
+      subst (λ (l : List ℕ). HasShown view_of begun (so_far ++ []) true l new) (sym (append-nil given))
+      (went_on s.lines phase none begun so_far over true given stands h))
 
 -- ---- the run
 
@@ -250,8 +255,8 @@ state_of : (reader : PacketReader) (fault : Option Fault) (bytes : List ℕ) (pa
     → Reads reader 0 bytes packets rest → StandsAt fault (length bytes - length rest) (length bytes) rest reader
 state_of reader fault bytes packets rest announced reads = rw (zero-add (length bytes), announced) at reads.state
 
-module _ {V : Type 0} (view_of : V → Option View) (view : Option View) (start : Tally) (old new : Shower V) (ended : Bool) (turns : ℕ)
-    (fresh : HasShown view_of view start [] false [] old) (waits : Waits old) where
+module _ {V : Type 0} {view_of : V → Option View} {begun : Beginning} {old : Shower V} (new : Shower V) (ended : Bool) (turns : ℕ)
+    (fresh : HasShown view_of begun [] false [] old) (waits : Waits old) where
   -- what a run's clauses state of the shower
   abbrev pub run_states : RunStates
   run_states = record {
@@ -268,25 +273,25 @@ module _ {V : Type 0} (view_of : V → Option View) (view : Option View) (start 
   RanSo result reader writer = Moves (is_broken result) (RanWith result) (reader ∷ []) (writer ∷ [])
 
   abbrev pub ShowsSo : Result (Unit {0}) RunFault → Flow → Flow → Type 0
-  ShowsSo answer reader writer = Moves (is_broken answer) (ShowsView view start new.tally answer ended turns) (reader ∷ []) (writer ∷ [])
+  ShowsSo answer reader writer = Moves (is_broken answer) (ShowsView begun.view begun.tally new.tally answer ended turns) (reader ∷ []) (writer ∷ [])
 
   -- what the shower used is these packets and a rest, and the run ended so
   abbrev EndsSo : Result (Unit {0}) RunFault → List ℕ → List ℕ → Bool → Type 0
   EndsSo answer bytes unused over =
-      (given : List ℕ) (h : HasShown view_of view start bytes over given new) → EndsAs answer ended turns bytes h.rest unused
+      (given : List ℕ) (h : HasShown view_of begun bytes over given new) → EndsAs answer ended turns bytes h.rest unused
 
   moved_so : (broken : Bool) (result answer : Result (Unit {0}) RunFault) {reader writer : Flow}
       → (ran : Moves broken (RanWith result) (reader ∷ []) (writer ∷ [])) → (broken ≡ false → new.lines.waiting ≡ [])
       → EndsSo answer (used_of 0 ran.related.trace) ran.related.unused (ended_after 0 false ran.related.trace)
-      → Moves broken (ShowsView view start new.tally answer ended turns) (reader ∷ []) (writer ∷ [])
+      → Moves broken (ShowsView begun.view begun.tally new.tally answer ended turns) (reader ∷ []) (writer ∷ [])
   moved_so broken result answer {reader} {writer} ran none ends =
       let x = ran.related in
       let given = given_to 0 x.trace in
-      let h = x.reaches view start [] false [] fresh in
+      let h = x.reaches begun [] false [] fresh in
       let sent = subst (λ (l : List (List ℕ)). AreWritten broken (writer ∷ []) l) x.sent ran.written in
       record {
         used = ran.used;
-        given = shown view start h.packets ∷ [];
+        given = shown begun.view begun.tally h.packets ∷ [];
         read = ran.read;
         written = (
           subst (λ (l : List ℕ). WrittenAs broken writer l) h.lines (all_written broken writer given new.lines.waiting sent.0 none),

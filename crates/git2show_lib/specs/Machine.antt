@@ -2,7 +2,6 @@
 pub mod ShownStream
 pub mod HeldLines
 pub mod ShowerStates
-pub mod Sources
 pub mod Reports
 pub mod CheckFaults
 pub mod Noting

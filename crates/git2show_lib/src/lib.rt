@@ -18,7 +18,6 @@ mod pretty;
 mod renderers;
 mod reports;
 mod requests_read;
-mod run_to_the_end;
 pub mod script_laws;
 mod script_lines;
 mod scripts;
@@ -27,7 +26,6 @@ mod showing;
 mod sieve;
 pub mod sieve_laws;
 mod sieved_response;
-mod source;
 pub mod view_laws;
 mod views;
 

@@ -9,9 +9,10 @@
 //! ```
 
 ghost use Rattle.std.specs.Prelude.{◌≡◌, ◌⊎◌, ◌≤◌, ◌<◌, [], None, Some, IsSome, IfSome, length, take, true, false};
+ghost use Rattle.git_loop.specs.Carried.{carries_further, carries_itself};
 ghost use Rattle.git_pkt.specs.Machine.PacketReader.{ShownByFeed, fault_of, passes_of};
 ghost use Rattle.git2show_lib.specs.Machine.ShowerStates.{Gathers, HasShown, IsSound, IsTooLong, ShowerReaches, Waits, fault_in, is_over};
-ghost use Rattle.git2show_lib.specs.Machine.ShowerStates.{reaches_further, reaches_itself, waits_in_time, waits_open};
+ghost use Rattle.git2show_lib.specs.Machine.ShowerStates.{waits_in_time, waits_open};
 
 use crate::lines::{FULL, Lines};
 use crate::renderers::Renderer;
@@ -53,7 +54,7 @@ struct Gathered {
 impl<V: Renderer> Shower<V> {
     /// A shower of a stream, by a renderer that has counted this.
     pub(crate) fn new(renderer: V, tally: Tally) -> Self
-        ensures shown { HasShown V.view (V.view renderer) tally [] false [] result }
+        ensures shown { HasShown V.view (record { view = V.view renderer; tally = tally }) [] false [] result }
         ensures waits { Waits result }
     {
         Shower {
@@ -148,9 +149,9 @@ impl<V: Renderer> Machine for Shower<V> {
 
     ghost reachable = { λ shower. Unit {0} };
 
-    ghost reaches_itself = { λ shower. reaches_itself V.view shower };
+    ghost reaches_itself = { λ shower. carries_itself (HasShown V.view) shower };
 
-    ghost reaches_further = { λ old middle new t u first second. reaches_further V.view old middle new t u first second };
+    ghost reaches_further = { λ old middle new t u first second. carries_further (HasShown V.view) old middle new t u first second };
 
     ghost stays_reachable = { λ old new t reaches before. tt };
 
@@ -166,8 +167,7 @@ impl<V: Renderer> Machine for Shower<V> {
         }
         match self.phase {
             Phase::Gathering => Next::NeedInput(0),
-            Phase::Stopped(_) => Next::Finished,
-            Phase::Closed => Next::Finished,
+            Phase::Stopped(_) | Phase::Closed => Next::Finished,
         }
     }
 
@@ -183,13 +183,10 @@ impl<V: Renderer> Machine for Shower<V> {
             self.renderer,
             chunk,
         );
-        match gathered.fault {
-            Some(fault) => {
-                self.phase = Phase::Stopped(fault);
-                gathered.used
-            }
-            None => gathered.used,
+        if let Some(fault) = gathered.fault {
+            self.phase = Phase::Stopped(fault);
         }
+        gathered.used
     }
 
     fn close(&mut self, from: u8) {

@@ -9,9 +9,9 @@ ghost use Rattle.git2show_lib.specs.declared.views.RequestState.{RequestState};
 ghost use Rattle.git2show_lib.specs.Machine.ShownStream.{Shows, ShowsRequests, ShowsView};
 
 use crate::renderers::{Plain, Renderer};
-use crate::run_to_the_end::run_to_the_end;
 use crate::shower::Shower;
 use crate::views::{Tally, View};
+use git_loop::run;
 use git_pkt::{Recorded, RunFault};
 use std::io::{Read, Write};
 
@@ -99,7 +99,7 @@ fn show_by<R: Read, W: Write, V: Renderer>(
         (flow (W.contents (inner_of writer.old)) (W.contents (inner_of writer.new)) ∷ []) }
 {
     let mut shower = Shower::new(renderer, *tally);
-    let ran = run_to_the_end(&mut shower, reader, writer, chunk, turns);
+    let ran = run(&mut shower, reader, writer, chunk, turns);
     *tally = shower.tally();
     ran?;
     match shower.fault() {

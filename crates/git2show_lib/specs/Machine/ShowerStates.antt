@@ -1,7 +1,8 @@
 -- The states of a shower in a run, and the laws that join its calls.
 use Rattle.std.specs.Prelude.{◌≡◌, ℕ, Bool, true, false, List, [], ◌++◌, Option, Some, None}
-use Rattle.std.proofs.Common.{sym, ap, ◌∙◌, append_assoc, append-nil, subst}
-use Rattle.git_loop.specs.Moves.{Move, ended_after, given_to, used_of, ended_after-append, given_to-append, used_of-append}
+use Rattle.std.proofs.Common.{sym, ap, ◌∙◌, subst}
+use Rattle.git_loop.specs.Carried.{Carries}
+use Rattle.git_loop.specs.Moves.{Move}
 use Rattle.git_pkt.specs.Splits.{Given}
 use Rattle.git_pkt.specs.Machine.PacketReader.{Reads, ReadsOn, fault_of, is_open, passes_of}
 use Rattle.git_pkt.specs.declared.fault.Fault.{Fault}
@@ -67,35 +68,22 @@ module _ {V : Type 0} where
 
 -- ---- the calls of a run
 
+-- what a shower began with: a view, or none, and what had been counted
+pub record Beginning : Type 0 where
+  pub view : Option View
+  pub tally : Tally
+
 module _ {V : Type 0} (view_of : V → Option View) where
-  -- since it began with this count, a shower has used these bytes, and what is shown of their packets was sent or waits
-  pub record HasShown (view : Option View) (start : Tally) (used : List ℕ) (over : Bool) (given : List ℕ) (s : Shower V) : Type 0 where
+  -- since it began so, a shower has used these bytes, and what is shown of their packets was sent or waits
+  pub record HasShown (begun : Beginning) (used : List ℕ) (over : Bool) (given : List ℕ) (s : Shower V) : Type 0 where
     pub packets : List Given
     pub rest : List ℕ
-    pub by : view_of s.renderer ≡ view
+    pub by : view_of s.renderer ≡ begun.view
     pub reads : Reads s.packets 0 used packets rest
-    pub lines : given ++ s.lines.waiting ≡ shown view start packets
-    pub tally : s.tally ≡ tally_of view start packets
+    pub lines : given ++ s.lines.waiting ≡ shown begun.view begun.tally packets
+    pub tally : s.tally ≡ tally_of begun.view begun.tally packets
     pub stands : StandsIn s.phase s.packets over
 
   -- what held before these moves holds after them, with what they used and gave
   abbrev pub ShowerReaches : Shower V → List Move → Shower V → Type 0
-  ShowerReaches old trace new =
-      (view : Option View) (start : Tally) (used : List ℕ) (over : Bool) (given : List ℕ) → HasShown view start used over given old
-      → HasShown view start (used ++ used_of 0 trace) (ended_after 0 over trace) (given ++ given_to 0 trace) new
-
-  pub reaches_itself : (s : Shower V) → ShowerReaches s [] s
-  reaches_itself s view start used over given h =
-      subst (λ (l : List ℕ). HasShown view start l over (given ++ []) s) (sym (append-nil used))
-      (subst (λ (l : List ℕ). HasShown view start used over l s) (sym (append-nil given)) h)
-
-  pub reaches_further : (old middle new : Shower V) (t u : List Move) → ShowerReaches old t middle → ShowerReaches middle u new
-      → ShowerReaches old (t ++ u) new
-  reaches_further old middle new t u first second view start so_far over before h =
-      let used = append_assoc so_far (used_of 0 t) (used_of 0 u) ∙ ap (λ (l : List ℕ). so_far ++ l) (sym (used_of-append 0 t u)) in
-      let given = append_assoc before (given_to 0 t) (given_to 0 u) ∙ ap (λ (l : List ℕ). before ++ l) (sym (given_to-append 0 t u)) in
-      subst (λ (b : Bool). HasShown view start (so_far ++ used_of 0 (t ++ u)) b (before ++ given_to 0 (t ++ u)) new)
-      (sym (ended_after-append 0 over t u))
-      (subst (λ (l : List ℕ). HasShown view start l (ended_after 0 (ended_after 0 over t) u) (before ++ given_to 0 (t ++ u)) new) used
-      (subst (λ (l : List ℕ). HasShown view start ((so_far ++ used_of 0 t) ++ used_of 0 u) (ended_after 0 (ended_after 0 over t) u) l new) given
-      (second view start (so_far ++ used_of 0 t) (ended_after 0 over t) (before ++ given_to 0 t) (first view start so_far over before h))))
+  ShowerReaches old trace new = Carries HasShown old trace new

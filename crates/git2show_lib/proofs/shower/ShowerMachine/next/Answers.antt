@@ -1,6 +1,4 @@
-use Rattle.std.proofs.Common.{ap}
-use Rattle.git2show_lib.specs.Machine.ShowerStates.{is_over}
-use Rattle.git2show_lib.proofs.Printing.{gives_part, stays}
+use Rattle.git2show_lib.proofs.Printing.{gives_part, over_in, stays}
 use Rattle.git2show_lib.proofs.shower.ShowerMachine.next.Goals as goal
 
 pub returns-then-lend-clause-part : goal.returns-then-lend-clause-part
@@ -22,12 +20,6 @@ returns-in-Gathering-clause-needs_input g c = λ from is. (
 
 pub returns-in-Stopped-clause-finished : goal.returns-in-Stopped-clause-finished
 returns-in-Stopped-clause-finished g c = λ is. (
-  (ap is_over c.in-Stopped.is, c.lend.ensures.taken),
-  stays g.V.Renderer.view c.args.self.now _ (c.lend.ensures.none c.if-lend.false).1,
-)
-
-pub returns-in-Closed-clause-finished : goal.returns-in-Closed-clause-finished
-returns-in-Closed-clause-finished g c = λ is. (
-  (ap is_over c.in-Closed.is, c.lend.ensures.taken),
+  (over_in c.in-Stopped.is, c.lend.ensures.taken),
   stays g.V.Renderer.view c.args.self.now _ (c.lend.ensures.none c.if-lend.false).1,
 )
