@@ -82,7 +82,7 @@ git2show_lib judged_requests others noting scripts script_lines sieve: io
 git2show_lib left_over: judged_requests
 git2show_lib advertisement: Request
 git2show_lib others sieve: Allocator
-git2show_lib lines: Read
+git2show_lib lines renderers shower: io Recorded
 git2show_lib showing: escape_into
 git2show main failures explanations: Packet PacketReader
 git2show pack_file remote_lines: git_pkt git_client

@@ -119,3 +119,9 @@ shallow g = at g.packet where
 pub reads_back : (g : Given) → g.offset < 2 ^ 64 → length (body_of g.packet) < 2 ^ 64
     → document (print (json_tokens (json_value g))) ≡ Some (json_value g)
 reads_back g offset long = document-print (json_value g) (numbers g offset long) (shallow g)
+
+-- the parts of a line, written one after another, are the line
+pub as_json : (first : List ℕ) (g : Given) {x y z : List ℕ} → x ≡ first ++ json_start g → y ≡ x ++ payload_coded g.packet → z ≡ y ++ json_end g.packet
+    → z ≡ first ++ json_line g
+as_json first g start coded end =
+    three_more first (json_start g) (payload_coded g.packet) (json_end g.packet) start coded end ∙ ap (λ (l : List ℕ). first ++ l) (json_parts g)

@@ -14,7 +14,6 @@ pub mod JudgedStages
 pub mod JudgedSteps
 pub mod JudgedReadings
 pub mod AdvertisementNoted
-pub mod Sendings
 pub mod PrettyTexts
 pub mod PrettyWidths
 pub mod PrettyPrintable

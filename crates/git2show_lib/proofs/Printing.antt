@@ -1,33 +1,37 @@
--- Packets printed one after another, and what that results in.
-use Rattle.std.proofs.Common.{◌≡◌, ℕ, ◌+◌, ◌-◌, ◌<◌, ◌≤◌, Bool, true, false, List, [], ◌∷◌, ◌++◌, length, take, drop, Option, Some, None}
-use Rattle.std.proofs.Common.{Result, Ok, Err, IfErr, IsErrAnd, MatchResult, OnOk, arith, ap, sym, ◌∙◌, refl, append_assoc, append-nil}
-use Rattle.std.proofs.Common.{length-drop, take-append-drop, zero-add}
-use Rattle.std.proofs.Math.Seq.{take-length}
-use Rattle.std.specs.Io.KnownBytes.{Consumes, Keeps}
+-- What is shown of packets, call by call of a shower, and what a run of it means for its streams.
+use Rattle.std.proofs.Common.{◌≡◌, ◌≢◌, ◌⊎◌, inl, inr, ℕ, ◌+◌, ◌-◌, ◌<◌, ◌≤◌, Bool, true, false, List, [], ◌∷◌, ◌++◌, length, take, drop}
+use Rattle.std.proofs.Common.{IsSome, Option, Some, None, Result, Ok, Err, IsErrAnd, arith, ap, sym, ◌∙◌, refl, subst}
+use Rattle.std.proofs.Common.{append_assoc, append-nil, length-drop, zero-add}
 use Rattle.git_pkt.specs.Splits.{Given}
-use Rattle.git_pkt.specs.Packets.{seen}
-use Rattle.git_pkt.specs.Machine.PacketReader.{Reads, ReadsOn, StandsAt, Feeds, Announces, fault_of, given_by, is_open, open_length, position_of}
+use Rattle.git_pkt.specs.Machine.PacketReader.{Reads, ReadsOn, StandsAt, Feeds, Announces, fault_of, given_by}
 use Rattle.git_pkt.proofs.KnownRest.{none_between}
-use Rattle.std.proofs.lemmas.Result.{err_from_is_err_and}
+use Rattle.git_pkt.specs.Packets.{seen}
 use Rattle.git_pkt.specs.declared.packet.Packet.{Packet}
 use Rattle.git_pkt.specs.declared.reader.Fed.{Fed}
 use Rattle.git_pkt.specs.declared.reader.Got.{Got}
-use Rattle.git_pkt.specs.declared.reader.Got.TheVariants.{More, Failed, Packet as GotPacket}
+use Rattle.git_pkt.specs.declared.reader.Got.TheVariants.{Failed, Packet as GotPacket}
 use Rattle.git_pkt.proofs.Chunks.{take_joined, left_of}
-use Rattle.git_pkt.specs.Streams.{AppendsFront, Flow, flow, WrittenAs, Moves, is_broken}
-use Rattle.git_pkt.specs.declared.fault.Kind.TheVariants.{Truncated}
+use Rattle.git_pkt.specs.Streams.{Flow, AreWritten, IsTimely, WrittenAs, Moves, is_broken}
+use Rattle.git_pkt.specs.declared.fault.Kind.{Kind}
+use Rattle.git_pkt.specs.declared.fault.Kind.TheVariants.{StreamTooLong, Truncated}
 use Rattle.git_pkt.specs.declared.fault.Fault.{Fault}
 use Rattle.git_pkt.specs.declared.fault.RunFault.{RunFault}
 use Rattle.git_pkt.specs.declared.fault.RunFault.TheVariants.{ReadFault, WriteFault, ReadLimit, Refused}
 use Rattle.git_pkt.specs.declared.reader.PacketReader.{PacketReader}
-use Rattle.git_pkt.proofs.EngineLemmas.{timely, Moved, moved_on, moved_unread, moves, brings_more, written_nothing}
+use Rattle.git_pkt.proofs.EngineLemmas.{AppendsFront-longer, at_fault}
+use Rattle.git_loop.specs.Carried.{carries_itself}
+use Rattle.git_loop.specs.Machines.{GivesPart, HasFinished, Ran, RunStates}
+use Rattle.git_loop.specs.Moves.{closed, gave, used, ended_after, given_to, used_of}
 use Rattle.git2show_lib.specs.PacketLines.{line_of, lines_of}
 use Rattle.git2show_lib.specs.PacketViews.{after, shown, tally_of, viewed}
 use Rattle.git2show_lib.specs.declared.views.Tally.{Tally}
 use Rattle.git2show_lib.specs.declared.views.View.{View}
-use Rattle.git2show_lib.specs.Machine.ShownStream.{EndsAs, Prints, PrintsChunk, Shows, ShowsChunk, ShowsView, Writes, WritesFront}
-use Rattle.git_client.specs.Machine.LineParts.{PutAs}
-use Rattle.git_client.proofs.WaitingLines.{put_front, put_out, put_then}
+use Rattle.git2show_lib.specs.Machine.HeldLines.{HeldLines}
+use Rattle.git2show_lib.specs.Machine.ShowerStates.{Beginning, Gathers, HasShown, IsTooLong, ShowerReaches, StandsIn, Waits, fault_in, is_over, waits_in_time}
+use Rattle.git2show_lib.specs.Machine.ShownStream.{EndsAs, Shows, ShowsView}
+use Rattle.git2show_lib.specs.declared.shower.Phase.{Phase}
+use Rattle.git2show_lib.specs.declared.shower.Phase.TheVariants.{Gathering, Stopped, Closed}
+use Rattle.git2show_lib.specs.declared.shower.Shower.{Shower}
 
 -- without a view the lines are the plain ones
 pub plain : (t : Tally) (gs : List Given) → shown None t gs ≡ lines_of gs
@@ -71,58 +75,40 @@ reads_on_then a b c u v gs hs one two start bytes given rest reads =
     let (last, second) = two start (bytes ++ u) (given ++ gs) middle first in
     (last, rw (append_assoc bytes u v, append_assoc given gs hs) at second)
 
-module _ {view : Option View} {start middle : Tally} {a b : PacketReader} {u w : List ℕ} {before held : Option (List ℕ)}
-    (so_far : Prints view start middle a b u w (flow before held)) where
-  -- one more packet was read, and its line was put after the others
-  prints_packet : (c : PacketReader) (v : List ℕ) {final : Tally} {after_it : Option (List ℕ)} {x : List ℕ} (g : Given) → ReadsOn b v (g ∷ []) c
-      → PutAs false (flow held after_it) w (viewed view middle g) x → final ≡ after view middle g
-      → Prints view start final a c (u ++ v) x (flow before after_it)
-  prints_packet c v g reads line counts = record {
-    packets = so_far.packets ++ g ∷ [];
-    reads = reads_on_then a b c u v so_far.packets (g ∷ []) so_far.reads reads;
-    put = rw (shown-one view start so_far.packets g so_far.tally) (put_then so_far.put line);
-    tally = tally-then view start so_far.packets (g ∷ []) so_far.tally counts;
-  }
+-- ---- one call of `feed` of the reader, over what is left of a chunk
 
-  -- one more packet was read, and a write failed at its line
-  prints_packet_front : (c : PacketReader) (v : List ℕ) {final : Tally} {after_it : Option (List ℕ)} {x : List ℕ} (g : Given) → ReadsOn b v (g ∷ []) c
-      → PutAs true (flow held after_it) w (viewed view middle g) x → final ≡ after view middle g
-      → Writes view start final true a c (u ++ v) (flow before after_it)
-  prints_packet_front c v g reads line counts = record {
-    packets = so_far.packets ++ g ∷ [];
-    reads = reads_on_then a b c u v so_far.packets (g ∷ []) so_far.reads reads;
-    written = rw (shown-one view start so_far.packets g so_far.tally) (put_front (put_then so_far.put line));
-    tally = tally-then view start so_far.packets (g ∷ []) so_far.tally counts;
-  }
+-- before the first one
+pub gathers_none : {view : Option View} (t : Tally) (r : PacketReader) (before : List ℕ) → Gathers view t t r r [] before before
+gathers_none t r before = record { packets = []; reads = none_read r; lines = sym (append-nil before); tally = refl }
 
-  -- bytes were read that make no packet whole
-  prints_quiet : (c : PacketReader) (v : List ℕ) → ReadsOn b v [] c → Prints view start middle a c (u ++ v) w (flow before held)
-  prints_quiet c v reads = record {
-    packets = so_far.packets;
-    reads = rw (append-nil so_far.packets) at (reads_on_then a b c u v so_far.packets [] so_far.reads reads);
-    put = so_far.put;
-    tally = so_far.tally;
-  }
+-- one more packet was read, and its line was put behind the others
+pub gathers_packet : {view : Option View} {start middle final : Tally} {a b : PacketReader} {u before w x : List ℕ} (c : PacketReader) (v : List ℕ)
+    (g : Given) → Gathers view start middle a b u before w → ReadsOn b v (g ∷ []) c → x ≡ w ++ viewed view middle g → final ≡ after view middle g
+    → Gathers view start final a c (u ++ v) before x
+gathers_packet {view} {start} {middle} {final} {a} {b} {u} {before} {w} c v g so_far reads line counts = record {
+  packets = so_far.packets ++ g ∷ [];
+  reads = reads_on_then a b c u v so_far.packets (g ∷ []) so_far.reads reads;
+  lines = line ∙ ap (λ (l : List ℕ). l ++ viewed view middle g) so_far.lines
+      ∙ append_assoc before (shown view start so_far.packets) (viewed view middle g)
+      ∙ ap (λ (l : List ℕ). before ++ l) (sym (shown-one view start so_far.packets g so_far.tally));
+  tally = tally-then view start so_far.packets (g ∷ []) so_far.tally counts;
+}
 
-  -- what waited was sent, as far as that went
-  sent_on : (broken : Bool) (after_it : Option (List ℕ)) → WrittenAs broken (flow held after_it) w
-      → Writes view start middle broken a b u (flow before after_it)
-  sent_on broken after_it sent = record {
-    packets = so_far.packets;
-    reads = so_far.reads;
-    written = put_out broken after_it so_far.put sent;
-    tally = so_far.tally;
-  }
-
--- ---- one call of `feed` over what is left of a chunk
+-- bytes were read that make no packet whole
+gathers_quiet : {view : Option View} {start middle : Tally} {a b : PacketReader} {u before w : List ℕ} (c : PacketReader) (v : List ℕ)
+    → Gathers view start middle a b u before w → ReadsOn b v [] c → Gathers view start middle a c (u ++ v) before w
+gathers_quiet {a = a} {b = b} {u = u} c v so_far reads = record {
+  packets = so_far.packets;
+  reads = rw (append-nil so_far.packets) at (reads_on_then a b c u v so_far.packets [] so_far.reads reads);
+  lines = so_far.lines;
+  tally = so_far.tally;
+}
 
 -- what is left of a chunk after `done` bytes, as a slice shows it
 abbrev pub left : List ℕ → ℕ → List ℕ
 left chunk done = take (length chunk - done) (drop done chunk)
 
-module _ {view : Option View} {start middle : Tally} {old b c : PacketReader} (chunk : List ℕ) (done : ℕ) {before held : Option (List ℕ)} {w : List ℕ}
-    {fed : Fed} (within : done ≤ length chunk)
-    (so_far : Prints view start middle old b (take done chunk) w (flow before held)) (feeds : Feeds b (left chunk done) fed c) where
+module _ {b c : PacketReader} (chunk : List ℕ) (done : ℕ) {fed : Fed} (within : done ≤ length chunk) (feeds : Feeds b (left chunk done) fed c) where
   reads_by : (got : Got) → fed.got ≡ got → ReadsOn b (take fed.used (left chunk done)) (given_by got) c
   reads_by got is = rw is at feeds.reads
 
@@ -132,192 +118,254 @@ module _ {view : Option View} {start middle : Tally} {old b c : PacketReader} (c
   pub left_length : length (left chunk done) ≡ length chunk - done
   left_length = ap length (left_of chunk done within) ∙ length-drop done chunk
 
-  pub fed_failed : (f : Fault) → fault_of b ≡ None → fed.got ≡ Failed f → PrintsChunk view start middle (Some f) old c chunk w (flow before held)
-  fed_failed f sound is =
-      let shown = feeds.news f sound is in (
-        done + fed.used,
-        rw (take_joined chunk done fed.used within) at (prints_quiet so_far c (take fed.used (left chunk done)) (reads_by (Failed f) is)),
+  module _ {view : Option View} {start middle : Tally} {old : PacketReader} {before w : List ℕ}
+      (so_far : Gathers view start middle old b (take done chunk) before w) where
+    pub fed_failed : (f : Fault) → fed.got ≡ Failed f → Gathers view start middle old c (take (done + fed.used) chunk) before w
+    fed_failed f is =
+        rw (take_joined chunk done fed.used within) at (gathers_quiet c (take fed.used (left chunk done)) so_far (reads_by (Failed f) is))
+
+    pub fed_packet : (p : Packet) (offset : ℕ) {final : Tally} {x : List ℕ} → fed.got ≡ GotPacket p offset
+        → x ≡ w ++ viewed view middle (record { packet = seen p; offset = offset })
+        → final ≡ after view middle (record { packet = seen p; offset = offset })
+        → Gathers view start final old c (take (done + fed.used) chunk) before x
+    fed_packet p offset is line counts =
+        rw (take_joined chunk done fed.used within) at (gathers_packet c (take fed.used (left chunk done)) (record { packet = seen p; offset = offset })
+        so_far (reads_by (GotPacket p offset) is) line counts)
+
+-- ---- the calls of a shower
+
+pub used_some : {fault : Option Fault} (count : ℕ) → fault ≡ None → (0 < count) ⊎ IsSome fault → 0 < count
+used_some count none (inl uses) = uses
+used_some count none (inr some) = let no : IsSome {T = Fault} None = subst IsSome none some in absurd (cc)
+
+pub over_in : {phase : Phase} → ((f : Fault) × (phase ≡ Stopped f)) ⊎ (phase ≡ Closed) → is_over phase ≡ true
+over_in (inl (f, at)) = ap is_over at
+over_in (inr at) = ap is_over at
+
+module _ {V : Type 0} (view_of : V → Option View) (s : Shower V) where
+  -- no line waited
+  pub stays : (lines : HeldLines) → lines ≡ s.lines
+      → ShowerReaches view_of s [] (record { packets = s.packets; lines = lines; renderer = s.renderer; tally = s.tally; phase = s.phase })
+  stays lines same =
+      subst (λ (l : HeldLines).
+      ShowerReaches view_of s [] (record { packets = s.packets; lines = l; renderer = s.renderer; tally = s.tally; phase = s.phase }))
+      (sym same) (carries_itself (HasShown view_of) s)
+
+  -- the lines were lent
+  pub gives_part : (to : ℕ) (lines : HeldLines) → to ≡ 0 → lines.waiting ≡ [] → lines.lent ≡ s.lines.waiting
+      → GivesPart (ShowerReaches view_of) (λ (m : Shower V) (bytes : List ℕ). bytes ≡ m.lines.lent) s to
+      (record { packets = s.packets; lines = lines; renderer = s.renderer; tally = s.tally; phase = s.phase })
+  gives_part to lines first empty lent =
+      let w = s.lines.waiting in
+      let new : Shower V = record { packets = s.packets; lines = lines; renderer = s.renderer; tally = s.tally; phase = s.phase } in
+      record {
+        bytes = w;
+        lent = sym lent;
+        reaches = subst (λ (n : ℕ). ShowerReaches view_of s (gave n w ∷ []) new) (sym first) (λ begun so_far over given h.
+            subst (λ (l : List ℕ). HasShown view_of begun l over (given ++ (w ++ [])) new) (sym (append-nil so_far)) (record {
+              packets = h.packets;
+              rest = h.rest;
+              by = h.by;
+              reads = h.reads;
+              lines = ap (λ (l : List ℕ). (given ++ l) ++ lines.waiting) (append-nil w) ∙ ap (λ (l : List ℕ). (given ++ w) ++ l) empty
+                  ∙ append-nil (given ++ w) ∙ h.lines;
+              tally = h.tally;
+              stands = h.stands;
+            }));
+      }
+
+  module _ {final : Tally} {packets : PacketReader} {bytes : List ℕ} (lines : HeldLines) (phase : Phase)
+      (gathers : Gathers (view_of s.renderer) s.tally final s.packets packets bytes s.lines.waiting lines.waiting) where
+    abbrev after_it : Shower V
+    after_it = record { packets = packets; lines = lines; renderer = s.renderer; tally = final; phase = phase }
+
+    -- it went on over these bytes
+    went_on : (begun : Beginning) (so_far : List ℕ) (over now : Bool) (given : List ℕ) → StandsIn phase packets now
+        → HasShown view_of begun so_far over given s → HasShown view_of begun (so_far ++ bytes) now given after_it
+    went_on begun so_far over now given stands h =
+        let more : Gathers begun.view s.tally final s.packets packets bytes s.lines.waiting lines.waiting =
+        subst (λ (v : Option View). Gathers v s.tally final s.packets packets bytes s.lines.waiting lines.waiting) h.by gathers in
+        let (rest, reads) = more.reads 0 so_far h.packets h.rest h.reads in
         record {
-          announced = announces_by (Failed f) is;
-          shown = record {
-            not_the_end = shown.not_the_end;
-            one_more = λ e. omega (arith, shown.one_more e, left_length);
-          };
-        },
-      )
+          packets = h.packets ++ more.packets;
+          rest = rest;
+          by = h.by;
+          reads = reads;
+          lines = ap (λ (l : List ℕ). given ++ l) more.lines
+              ∙ sym (append_assoc given s.lines.waiting (shown begun.view s.tally more.packets))
+              ∙ ap (λ (l : List ℕ). l ++ shown begun.view s.tally more.packets) h.lines
+              ∙ sym (shown-then begun.view begun.tally h.packets more.packets h.tally);
+          tally = tally-then begun.view begun.tally h.packets more.packets h.tally more.tally;
+          stands = stands;
+        }
 
-  pub fed_more : fed.got ≡ More → Prints view start middle old c chunk w (flow before held)
-  fed_more is =
-      let announces = announces_by More is in
-      let all : take (done + fed.used) chunk ≡ chunk =
-      ap (λ (n : ℕ). take n chunk) (omega (arith, announces.0, left_length, within)) ∙ take-length chunk in
-      rw (take_joined chunk done fed.used within, all) at (prints_quiet so_far c (take fed.used (left chunk done)) (reads_by More is))
+    pub reaches_used : (from : ℕ) → from ≡ 0 → ((over : Bool) → StandsIn phase packets over)
+        → ShowerReaches view_of s (used from bytes ∷ []) after_it
+    reaches_used from first stands =
+        subst (λ (n : ℕ). ShowerReaches view_of s (used n bytes ∷ []) after_it) (sym first) (λ begun so_far over given h.
+        subst (λ (l : List ℕ). HasShown view_of begun (so_far ++ l) over (given ++ []) after_it) (sym (append-nil bytes))
+        (subst (λ (l : List ℕ). HasShown view_of begun (so_far ++ bytes) over l after_it) (sym (append-nil given))
+        (went_on begun so_far over over given (stands over) h)))
 
-  pub fed_packet : (p : Packet) (offset : ℕ) {final : Tally} {after_it : Option (List ℕ)} {x : List ℕ} → fed.got ≡ GotPacket p offset
-      → PutAs false (flow held after_it) w (viewed view middle (record { packet = seen p; offset = offset })) x
-      → final ≡ after view middle (record { packet = seen p; offset = offset })
-      → Prints view start final old c (take (done + fed.used) chunk) x (flow before after_it)
-  fed_packet p offset is line counts =
-      rw (take_joined chunk done fed.used within) at
-      (prints_packet so_far c (take fed.used (left chunk done)) (record { packet = seen p; offset = offset }) (reads_by (GotPacket p offset) is) line counts)
-
-  pub fed_packet_front : (p : Packet) (offset : ℕ) {final : Tally} {after_it : Option (List ℕ)} {x : List ℕ} → fed.got ≡ GotPacket p offset
-      → PutAs true (flow held after_it) w (viewed view middle (record { packet = seen p; offset = offset })) x
-      → final ≡ after view middle (record { packet = seen p; offset = offset })
-      → WritesFront view start final old c chunk (flow before after_it)
-  fed_packet_front p offset is line counts = (
-    done + fed.used,
-    rw (take_joined chunk done fed.used within) at (prints_packet_front so_far c (take fed.used (left chunk done))
-        (record { packet = seen p; offset = offset }) (reads_by (GotPacket p offset) is) line counts),
-  )
-
--- the write of what waited failed, whether or not the chunk had a fault
-pub sent_in_part : {view : Option View} {start final : Tally} (old new : PacketReader) (chunk w : List ℕ) (before held later : Option (List ℕ))
-    (stopped : Option Fault) → PrintsChunk view start final stopped old new chunk w (flow before held) → AppendsFront held later w
-    → WritesFront view start final old new chunk (flow before later)
-sent_in_part old new chunk w before held later None prints front = (length chunk, rw (take-length chunk) (sent_on prints.0 true later front))
-sent_in_part old new chunk w before held later (Some f) (used, prints, meets) front = (used, sent_on prints true later front)
+  -- the input ended
+  pub reaches_closed : (from : ℕ) (packets : PacketReader) (phase : Phase) → from ≡ 0 → ReadsOn s.packets [] [] packets → StandsIn phase packets true
+      → ShowerReaches view_of s (closed from ∷ [])
+      (record { packets = packets; lines = s.lines; renderer = s.renderer; tally = s.tally; phase = phase })
+  reaches_closed from packets phase first carries stands =
+      let new : Shower V = record { packets = packets; lines = s.lines; renderer = s.renderer; tally = s.tally; phase = phase } in
+      let none : Gathers (view_of s.renderer) s.tally s.tally s.packets packets [] s.lines.waiting s.lines.waiting =
+      record { packets = []; reads = carries; lines = sym (append-nil s.lines.waiting); tally = refl } in
+      subst (λ (n : ℕ). ShowerReaches view_of s (closed n ∷ []) new) (sym first) (λ begun so_far over given h.
+      subst (λ (l : List ℕ). HasShown view_of begun (so_far ++ []) true l new) (sym (append-nil given))
+      (went_on s.lines phase none begun so_far over true given stands h))
 
 -- ---- the run
 
--- so far the reader has used all that was read, the lines given are those of its packets, and so many reads brought some bytes
-pub record ShowsSoFar (view : Option View) (start tally_now : Tally) (reader : PacketReader) (count : ℕ) (read given : List ℕ) : Type 0 where
-  pub packets : List Given
-  pub rest : List ℕ
-  pub reads : Reads reader 0 read packets rest
-  pub lines : given ≡ shown view start packets
-  pub tally : tally_now ≡ tally_of view start packets
-  pub brought : count ≤ length read
+closed_phase : (p : Phase) → is_over p ≡ true → fault_in p ≡ None → p ≡ Closed
+closed_phase Gathering over sound = absurd (cc)
+closed_phase (Stopped f) over sound = absurd (cc)
+closed_phase Closed over sound = refl
 
--- how a run with this answer moved its streams
-abbrev pub RunEnds : Option View → Tally → Tally → Result (Unit {0}) RunFault → Bool → ℕ → Flow → Flow → Type 0
-RunEnds view start final result ended turns reader writer = Moves (is_broken result) (ShowsView view start final result ended turns) (reader ∷ []) (writer ∷ [])
+stopped_phase : (p : Phase) (f : Fault) → fault_in p ≡ Some f → p ≡ Stopped f
+stopped_phase Gathering f is = absurd (cc)
+stopped_phase (Stopped g) f is = let same : g ≡ f = cc in ap Stopped same
+stopped_phase Closed f is = absurd (cc)
+
+some_left : (l : List ℕ) → l ≢ [] → 0 < length l
+some_left [] some = absurd (some refl)
+some_left (b ∷ l) some = omega arith
+
+-- a fault is reported in time
+in_time : (kind : Kind) (ended : Bool) (unused : List ℕ) → (kind ≡ Truncated → (unused ≡ []) × (ended ≡ true))
+    → (kind ≡ StreamTooLong → 0 < length unused) → IsTimely kind ended unused
+in_time Truncated ended unused last more = last refl
+in_time StreamTooLong ended unused last more = more refl
+in_time kind ended unused last more = tt
+
+-- the parts were written, and with them what waits, if that is nothing or a write failed
+all_written : (broken : Bool) (writer : Flow) (given waiting : List ℕ) → WrittenAs broken writer given → (broken ≡ false → waiting ≡ [])
+    → WrittenAs broken writer (given ++ waiting)
+all_written false writer given waiting written none =
+    subst (λ (l : List ℕ). WrittenAs false writer (given ++ l)) (sym (none refl))
+    (subst (λ (l : List ℕ). WrittenAs false writer l) (sym (append-nil given)) written)
+all_written true writer given waiting written none = AppendsFront-longer writer.before writer.after given waiting written
 
 -- the state of a reader with this fault, or with none
 state_of : (reader : PacketReader) (fault : Option Fault) (bytes : List ℕ) (packets : List Given) (rest : List ℕ) → fault_of reader ≡ fault
     → Reads reader 0 bytes packets rest → StandsAt fault (length bytes - length rest) (length bytes) rest reader
-state_of reader fault bytes packets rest announced reads =
-    rw (zero-add (length bytes), announced) at reads.state
+state_of reader fault bytes packets rest announced reads = rw (zero-add (length bytes), announced) at reads.state
 
-module _ {view : Option View} {start middle final : Tally} where
-  -- the lines of a chunk were written, and reading goes on
-  pub shows_more : (old new : PacketReader) (count n : ℕ) (chunk : List ℕ) {left_before left left_after held_before held held_after : Option (List ℕ)}
-      → Moved false (ShowsSoFar view start middle old count) (flow left_before left) (flow held_before held) → Consumes left left_after (take n chunk)
-      → Writes view middle final false old new (take n chunk) (flow held held_after) → n ≤ length chunk → 0 < n
-      → Moved false (ShowsSoFar view start final new (count + 1)) (flow left_before left_after) (flow held_before held_after)
-  shows_more old new count n chunk so_far read writes within some =
-      moved_on false (ShowsSoFar view start final new (count + 1)) (take n chunk) (shown view middle writes.packets) (λ came given shows.
-      let (rest, reads) = writes.reads 0 came shows.packets shows.rest shows.reads in
-      record {
-        packets = shows.packets ++ writes.packets;
-        rest = rest;
-        reads = reads;
-        lines = rw (shows.lines, shown-then view start shows.packets writes.packets shows.tally) refl;
-        tally = tally-then view start shows.packets writes.packets shows.tally writes.tally;
-        brought = brings_more count n came chunk shows.brought within some;
-      }) so_far read writes.written
-
-module _ {view : Option View} {start middle final : Tally} (ended : Bool) (turns count : ℕ) (old new : PacketReader) (bytes : List ℕ)
-    {left_before left left_after held_before held held_after : Option (List ℕ)} where
-  -- the lines of a front of a chunk were written, or a front of them, and the run ended there
-  stops_in : (result : Result (Unit {0}) RunFault) (used : ℕ)
-      → Moved false (ShowsSoFar view start middle old count) (flow left_before left) (flow held_before held) → Consumes left left_after bytes
-      → Writes view middle final (is_broken result) old new (take used bytes) (flow held held_after)
-      → ((came : List ℕ) (packets : List Given) (rest : List ℕ) → Reads new 0 (came ++ take used bytes) packets rest
-      → EndsAs result ended turns (came ++ take used bytes) rest (drop used bytes))
-      → RunEnds view start final result ended turns (flow left_before left_after) (flow held_before held_after)
-  stops_in result used so_far read writes ends =
-      moves (λ came given shows. shows) (moved_on (is_broken result)
-      (λ came given. ShowsView view start final result ended turns (came ∷ []) (given ∷ [])) bytes (shown view middle writes.packets) (λ came given shows.
-      let (rest, reads) = writes.reads 0 came shows.packets shows.rest shows.reads in
-      record {
-        shows = record {
-          used = came ++ take used bytes;
-          unused = drop used bytes;
-          packets = shows.packets ++ writes.packets;
-          rest = rest;
-          cut = simp (append_assoc, take-append-drop);
-          splits = reads.splits;
-          lines = rw (shows.lines, shown-then view start shows.packets writes.packets shows.tally) refl;
-          ends = ends came (shows.packets ++ writes.packets) rest reads;
-        };
-        tally = tally-then view start shows.packets writes.packets shows.tally writes.tally;
-      }) so_far read writes.written)
-
-  -- a chunk ended the run
-  pub stops_by : (fault : RunFault) → Moved false (ShowsSoFar view start middle old count) (flow left_before left) (flow held_before held)
-      → Consumes left left_after bytes → ShowsChunk view middle final (Err fault) old new bytes (flow held held_after)
-      → RunEnds view start final (Err fault) ended turns (flow left_before left_after) (flow held_before held_after)
-  stops_by ReadFault so_far read shown = absurd shown
-  stops_by WriteFault so_far read (used, writes) = stops_in (Err WriteFault) used so_far read writes (λ came packets rest reads. tt)
-  stops_by ReadLimit so_far read shown = absurd shown
-  stops_by (Refused f) so_far read (used, writes, meets) =
-      stops_in (Err (Refused f)) used so_far read writes (λ came packets rest reads. (
-        (state_of new (Some f) (came ++ take used bytes) packets rest meets.announced reads).1,
-        timely f.kind ended (drop used bytes) meets.shown.not_the_end (λ e. omega (arith, meets.shown.one_more e, length-drop used bytes)),
-      ))
-
-module _ {view : Option View} {start final : Tally} (ended : Bool) (turns count : ℕ) (reader : PacketReader) where
-  -- all that was read was used, and the run ended with this rest
-  ends_here : (result : Result (Unit {0}) RunFault) (came given : List ℕ) → ShowsSoFar view start final reader count came given
-      → ((packets : List Given) (rest : List ℕ) → Reads reader 0 came packets rest → EndsAs result ended turns came rest [])
-      → ShowsView view start final result ended turns (came ∷ []) (given ∷ [])
-  ends_here result came given shows ends = record {
-    shows = record {
-      used = came;
-      unused = [];
-      packets = shows.packets;
-      rest = shows.rest;
-      cut = ap (λ (l : List ℕ). l ∷ []) (sym (append-nil came));
-      splits = shows.reads.splits;
-      lines = ap (λ (l : List ℕ). l ∷ []) shows.lines;
-      ends = ends shows.packets shows.rest shows.reads;
-    };
-    tally = shows.tally;
+module _ {V : Type 0} {view_of : V → Option View} {begun : Beginning} {old : Shower V} (new : Shower V) (ended : Bool) (turns : ℕ)
+    (fresh : HasShown view_of begun [] false [] old) (waits : Waits old) where
+  -- what a run's clauses state of the shower
+  abbrev pub run_states : RunStates
+  run_states = record {
+    needs_input = (◌≡◌ {A = ℕ} 0 0) × Waits new;
+    finished = (is_over new.phase ≡ true) × (new.lines.waiting ≡ []);
+    stopped_short = Unit {0} × ((◌≡◌ {A = ℕ} 0 0) × IsTooLong new.phase);
+    stopped_short_before = (◌≡◌ {A = ℕ} 0 0) × IsTooLong old.phase;
   }
 
-  module _ (sound : fault_of reader ≡ None) where
-    -- a read failed
-    pub ends_unread : {writer : Flow} {before left after : Option (List ℕ)} → Moved false (ShowsSoFar view start final reader count) (flow before left) writer
-        → Keeps left after → RunEnds view start final (Err ReadFault) ended turns (flow before after) writer
-    ends_unread so_far kept =
-        moves (λ came given shows. ends_here (Err ReadFault) came given shows
-        (λ packets rest reads. ((state_of reader None came packets rest sound reads).1, refl))) (moved_unread so_far kept)
+  abbrev RanWith : Result (Unit {0}) RunFault → List (List ℕ) → List (List ℕ) → Type 0
+  RanWith result = Ran (ShowerReaches view_of) old new run_states result ended turns
 
-    -- all reads were made, and each brought some bytes
-    pub ends_spent : {left writer : Flow} → Moved false (ShowsSoFar view start final reader count) left writer → turns ≤ count
-        → RunEnds view start final (Err ReadLimit) ended turns left writer
-    ends_spent so_far spent =
-        moves (λ came given shows. ends_here (Err ReadLimit) came given shows
-        (λ packets rest reads. ((state_of reader None came packets rest sound reads).1, refl, omega (arith, spent, shows.brought)))) so_far
+  abbrev pub RanSo : Result (Unit {0}) RunFault → Flow → Flow → Type 0
+  RanSo result reader writer = Moves (is_broken result) (RanWith result) (reader ∷ []) (writer ∷ [])
 
--- a reader that used nothing wrote nothing
-all_read : {view : Option View} {t : Tally} (old new : PacketReader) (held : Option (List ℕ)) → ReadsOn old [] [] new
-    → Writes view t t false old new [] (flow held held)
-all_read old new held carries = record { packets = []; reads = carries; written = written_nothing held; tally = refl }
+  abbrev pub ShowsSo : Result (Unit {0}) RunFault → Flow → Flow → Type 0
+  ShowsSo answer reader writer = Moves (is_broken answer) (ShowsView begun.view begun.tally new.tally answer ended turns) (reader ∷ []) (writer ∷ [])
 
-module _ {view : Option View} {start final : Tally} (ended : Bool) (turns count : ℕ) (old new : PacketReader)
-    {left_before left left_after held_before held : Option (List ℕ)}
-    (so_far : Moved false (ShowsSoFar view start final old count) (flow left_before left) (flow held_before held)) (read : Consumes left left_after [])
-    (carries : ReadsOn old [] [] new) (announced : ended ≡ true) where
-  -- the input ended, between two packets or inside one
-  pub ends_closed : (closed : Result (Unit {0}) Fault) (result : Result (Unit {0}) RunFault)
-      → MatchResult closed (λ done. result ≡ Ok done) (λ f. IsErrAnd result (λ fault. fault ≡ Refused f))
-      → OnOk closed ((new ≡ old) × (fault_of old ≡ None) × (is_open old ≡ false)) → IfErr closed (λ f. fault_of new ≡ Some f)
-      → IfErr closed (λ f. (is_open old ≡ true) × (f.kind ≡ Truncated) × (f.offset + open_length old ≡ position_of old))
-      → RunEnds view start final result ended turns (flow left_before left_after) (flow held_before held)
-  ends_closed (Ok done) result is between fails cut =
-      rw is (stops_in ended turns count old new [] (Ok done) 0 so_far read (all_read old new held carries) (λ came packets rest reads. (
-        none_between new rest (state_of new None (came ++ []) packets rest (ap fault_of between.0 ∙ between.1) reads).0 (ap is_open between.0 ∙ between.2),
-        refl,
-        announced,
-      )))
-  ends_closed (Err f) result is between fails cut =
-      let (fault, was, named) = err_from_is_err_and result is in
-      rw (was, named) (stops_in ended turns count old new [] (Err (Refused f)) 0 so_far read (all_read old new held carries) (λ came packets rest reads. (
-        (state_of new (Some f) (came ++ []) packets rest fails reads).1,
-        rw cut.1 (refl, announced),
-      )))
+  -- what the shower used is these packets and a rest, and the run ended so
+  abbrev EndsSo : Result (Unit {0}) RunFault → List ℕ → List ℕ → Bool → Type 0
+  EndsSo answer bytes unused over =
+      (given : List ℕ) (h : HasShown view_of begun bytes over given new) → EndsAs answer ended turns bytes h.rest unused
+
+  moved_so : (broken : Bool) (result answer : Result (Unit {0}) RunFault) {reader writer : Flow}
+      → (ran : Moves broken (RanWith result) (reader ∷ []) (writer ∷ [])) → (broken ≡ false → new.lines.waiting ≡ [])
+      → EndsSo answer (used_of 0 ran.related.trace) ran.related.unused (ended_after 0 false ran.related.trace)
+      → Moves broken (ShowsView begun.view begun.tally new.tally answer ended turns) (reader ∷ []) (writer ∷ [])
+  moved_so broken result answer {reader} {writer} ran none ends =
+      let x = ran.related in
+      let given = given_to 0 x.trace in
+      let h = x.reaches begun [] false [] fresh in
+      let sent = subst (λ (l : List (List ℕ)). AreWritten broken (writer ∷ []) l) x.sent ran.written in
+      record {
+        used = ran.used;
+        given = shown begun.view begun.tally h.packets ∷ [];
+        read = ran.read;
+        written = (
+          subst (λ (l : List ℕ). WrittenAs broken writer l) h.lines (all_written broken writer given new.lines.waiting sent.0 none),
+          tt,
+        );
+        related = record {
+          shows = record {
+            used = used_of 0 x.trace;
+            unused = x.unused;
+            packets = h.packets;
+            rest = h.rest;
+            cut = x.received;
+            splits = h.reads.splits;
+            lines = refl;
+            ends = ends given h;
+          };
+          tally = h.tally;
+        };
+      }
+
+  -- the input ended, between two packets
+  pub shows_closed : {reader writer : Flow} → RanSo (Ok tt) reader writer → fault_in new.phase ≡ None → ShowsSo (Ok tt) reader writer
+  shows_closed ran sound =
+      let x = ran.related in
+      let phase = closed_phase new.phase x.ends.finished.0 sound in
+      moved_so false (Ok tt) (Ok tt) ran (λ e. x.ends.finished.1) (λ given h.
+      let (none, shut, over) = subst (λ (p : Phase). StandsIn p new.packets (ended_after 0 false x.trace)) phase h.stands in
+      let state = state_of new.packets None (used_of 0 x.trace) h.packets h.rest none h.reads in
+      let whole = x.whole over in
+      (none_between new.packets h.rest state.0 shut, whole.0, whole.1))
+
+  -- a fault of the input stopped it
+  pub shows_stopped : (f : Fault) {reader writer : Flow} → RanSo (Ok tt) reader writer → fault_in new.phase ≡ Some f
+      → ShowsSo (Err (Refused f)) reader writer
+  shows_stopped f ran is =
+      let x = ran.related in
+      let phase = stopped_phase new.phase f is in
+      moved_so false (Ok tt) (Err (Refused f)) ran (λ e. x.ends.finished.1) (λ given h.
+      let stands = subst (λ (p : Phase). StandsIn p new.packets (ended_after 0 false x.trace)) phase h.stands in
+      let state = state_of new.packets (Some f) (used_of 0 x.trace) h.packets h.rest stands.0 h.reads in
+      (state.1, in_time f.kind ended x.unused (λ e. x.whole (stands.1 e)) (λ e. more_left x.unused x.ends (subst IsTooLong (sym phase) e))))
+    where
+      more_left : (unused : List ℕ) → HasFinished run_states unused → IsTooLong new.phase → 0 < length unused
+      more_left unused rests too_long =
+          elim (rests.short (tt, (refl, too_long))) [
+            | inl more ↦ some_left unused more
+            | inr before ↦ absurd (waits_in_time old waits before.1)
+          ]
+
+  -- a read or a write failed, or the reads were spent
+  breaks : (fault : RunFault) {reader writer : Flow} → RanSo (Err fault) reader writer → ShowsSo (Err fault) reader writer
+  breaks ReadFault ran =
+      let x = ran.related in
+      let waiting = x.ends.needs_input.1 in
+      moved_so false (Err ReadFault) (Err ReadFault) ran (λ e. waiting.all_given) (λ given h. (
+        (state_of new.packets None (used_of 0 x.trace) h.packets h.rest (waiting.sound.sound waiting.gathering) h.reads).1,
+        x.ends.all,
+      ))
+  breaks WriteFault ran = moved_so true (Err WriteFault) (Err WriteFault) ran (λ e. absurd (cc)) (λ given h. tt)
+  breaks ReadLimit ran =
+      let x = ran.related in
+      let waiting = x.ends.0.needs_input.1 in
+      moved_so false (Err ReadLimit) (Err ReadLimit) ran (λ e. waiting.all_given) (λ given h. (
+        (state_of new.packets None (used_of 0 x.trace) h.packets h.rest (waiting.sound.sound waiting.gathering) h.reads).1,
+        x.ends.0.all,
+        x.ends.1,
+      ))
+  breaks (Refused f) ran = absurd ran.related.ends
+
+  -- the fault that `?` returns is the one that it met
+  pub shows_at : (answer : Result (Unit {0}) RunFault) (fault : RunFault) {reader writer : Flow} → IsErrAnd answer (λ e. e ≡ fault)
+      → RanSo (Err fault) reader writer → ShowsSo answer reader writer
+  shows_at answer fault {reader} {writer} answered ran =
+      at_fault answer fault fault (λ (x : Result (Unit {0}) RunFault). ShowsSo x reader writer) refl answered (breaks fault ran)
 
 -- without a view the run is that of `show`
 pub without_view : {broken ended : Bool} {turns : ℕ} {start final : Tally} {result : Result (Unit {0}) RunFault} {readers writers : List Flow}

@@ -1,5 +1,7 @@
 -- The state and the calls of the runs of `show`, `check` and `play`, and of scripts as they are held. No definition beside this folder cites them.
 pub mod ShownStream
+pub mod HeldLines
+pub mod ShowerStates
 pub mod Reports
 pub mod CheckFaults
 pub mod Noting

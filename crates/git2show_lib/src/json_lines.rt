@@ -2,11 +2,13 @@
 
 ghost use Rattle.std.specs.Prelude.{◌≡◌, ◌+◌, ◌*◌, ◌≤◌, ◌<◌, ◌∷◌, [], ◌++◌, length, take, flat_map};
 ghost use Rattle.std.specs.Str.{is_utf8};
-ghost use Rattle.git2show_lib.specs.JsonLines.{coded, coding_of, payload_key, kind_start, json_start, json_end};
-ghost use Rattle.git_pkt.specs.Packets.{seen};
+ghost use Rattle.git2show_lib.specs.JsonLines.{coded, coding_of, payload_key, kind_start, json_start, json_end, json_line};
+ghost use Rattle.git_pkt.specs.Packets.{body_of, seen};
 ghost use Rattle.json.specs.Print.{escape_letter};
 ghost use Rattle.git_names.specs.Digits.{lower_digit};
 
+use crate::lines::PAYLOAD;
+use crate::pretty::body;
 use git_names::lower_digit;
 use git_pkt::{Packet, put_at};
 use itoa::Buffer;
@@ -25,7 +27,13 @@ pub(crate) enum Coding {
 const LONGEST: usize = 6;
 
 /// Space for what comes before the bytes of a payload.
-pub(crate) const START: usize = 128;
+const START: usize = 128;
+
+/// Space for what comes after them.
+const END: usize = 3;
+
+/// Space for the longest line.
+pub(crate) const JSON_LINE: usize = START + LONGEST * PAYLOAD + END;
 
 /// Space for the part of it that names the kind of a packet.
 const KIND: usize = 64;
@@ -39,7 +47,7 @@ struct Coded {
 
 impl Coding {
     /// How a payload is written.
-    pub(crate) fn of(payload: &[u8]) -> Self
+    fn of(payload: &[u8]) -> Self
         ensures { result ≡ coding_of (is_utf8 payload.now) }
     {
         match str::from_utf8(payload) {
@@ -75,7 +83,7 @@ impl Coding {
     }
 
     /// Writes what each byte becomes over the bytes of `out` from `at` on, and returns where that ends.
-    pub(crate) fn write(self, bytes: &[u8], out: &mut [u8], at: usize) -> usize
+    fn write(self, bytes: &[u8], out: &mut [u8], at: usize) -> usize
         requires { at + LONGEST * length bytes.now ≤ length out.old }
         ensures within { result ≤ at + LONGEST * length bytes.now }
         ensures coded { take result out.new ≡ take at out.old ++ flat_map (coded self) bytes.now }
@@ -152,9 +160,9 @@ fn digit(value: u8) -> u8
 }
 
 /// What comes after the bytes of a payload.
-pub(crate) fn json_end(packet: Packet<'_>) -> &'static [u8]
+fn json_end(packet: Packet<'_>) -> &'static [u8]
     ensures end { result.now ≡ json_end (seen packet.entry) }
-    ensures short { length result.now ≤ 3 }
+    ensures short { length result.now ≤ END }
 {
     match packet {
         Packet::Payload(_) => b"\"}\n",
@@ -162,8 +170,20 @@ pub(crate) fn json_end(packet: Packet<'_>) -> &'static [u8]
     }
 }
 
+/// Writes the line of a packet over the bytes of `out` from `at` on, and returns where it ends.
+pub(crate) fn write_json(packet: Packet<'_>, offset: u64, out: &mut [u8], at: usize) -> usize
+    requires space { at + JSON_LINE ≤ length out.old }
+    requires fits { length (body_of (seen packet)) ≤ PAYLOAD }
+    ensures within { result ≤ at + JSON_LINE }
+    ensures line { take result out.new ≡ take at out.old ++ json_line (record { packet = seen packet.entry; offset = offset }) }
+{
+    let at = write_json_start(packet, offset, out, at);
+    let at = Coding::of(body(packet)).write(body(packet), out, at);
+    put_at(out, at, json_end(packet))
+}
+
 /// Writes what comes before the bytes of a payload, over the bytes of `out` from `at` on, and returns where it ends.
-pub(crate) fn write_json_start(packet: Packet<'_>, offset: u64, out: &mut [u8], at: usize) -> usize
+fn write_json_start(packet: Packet<'_>, offset: u64, out: &mut [u8], at: usize) -> usize
     requires { at + START ≤ length out.old }
     ensures within { result ≤ at + START }
     ensures start { take result out.new ≡ take at out.old ++ json_start (record { packet = seen packet.entry; offset = offset }) }

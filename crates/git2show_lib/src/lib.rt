@@ -21,6 +21,7 @@ mod requests_read;
 pub mod script_laws;
 mod script_lines;
 mod scripts;
+mod shower;
 mod showing;
 mod sieve;
 pub mod sieve_laws;

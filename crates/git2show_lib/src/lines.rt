@@ -1,24 +1,29 @@
-//! Lines on their way to a writer.
+//! The lines that wait to be given, and how a packet is written as one.
 
-ghost use Rattle.std.specs.Prelude.{◌≡◌, ◌+◌, ◌≤◌, ◌++◌, [], length, take, OnOk, decimal, flat_map};
-ghost use Rattle.git_pkt.specs.Packets.{seen};
+ghost use Rattle.std.specs.Prelude.{◌≡◌, ◌+◌, ◌*◌, ◌≤◌, ◌<◌, ◌++◌, ◌↔◌, [], length, take, true, false, decimal, IsTrue};
+ghost use Rattle.git_pkt.specs.Packets.{body_of, seen};
 ghost use Rattle.git_pkt.specs.Escape.{escaped_of};
-ghost use Rattle.git_pkt.specs.Machine.Sends.{Puts, Sends};
 ghost use Rattle.git2show_lib.specs.PacketLines.{kind_shown, line_of};
 ghost use Rattle.git2show_lib.specs.PacketViews.{view_line};
 ghost use Rattle.git2show_lib.specs.PrettyLines.{pretty_line};
-ghost use Rattle.git2show_lib.specs.JsonLines.{coded, json_line, json_start};
+ghost use Rattle.git2show_lib.specs.JsonLines.{json_line};
 
-use crate::json_lines::{Coding, json_end, write_json_start};
+use crate::json_lines::{JSON_LINE, write_json};
 use crate::pretty::{LINE, Look, body, write_pretty};
 use crate::views::{Form, Tally, View};
-use git_pkt::{Packet, Recorded, RunFault, escape_into, flush, is_plain, put_at, send};
+use git_pkt::{Packet, escape_into, is_plain, put_at};
 use itoa::Buffer;
-use std::io::Write;
 use std::marker::Model;
 
-/// How many bytes wait for the writer at the most.
-const CAPACITY: usize = 65_536;
+/// With so many bytes the lines are full: they are sent before the next packet is read.
+pub(crate) const FULL: usize = 65_536;
+
+/// How many bytes a payload has at most.
+pub(crate) const PAYLOAD: usize = 65_516;
+
+/// Space for lines that are not full yet, and for one line more. The longest is one of JSON, where a byte of a payload becomes six at
+/// most; in plain text it becomes four. So no line is ever cut.
+const CAPACITY: usize = FULL + JSON_LINE;
 
 /// How many bytes are escaped at a time.
 const BLOCK: usize = 32;
@@ -33,256 +38,128 @@ const HEAD: usize = 64;
 #[derive(Drop)]
 pub(crate) struct Lines {
     bytes: [u8; CAPACITY],
+    /// How many bytes wait.
     count: usize,
+    /// How many bytes were lent last. No line was put since, or they mean nothing.
+    lent: usize,
 }
 
 impl Model for Lines {
-    ghost use Rattle.std.specs.Prelude.{◌≡◌, ◌≤◌, ℕ, List, length, take};
+    ghost use Rattle.std.specs.Prelude.{◌≤◌, take};
+    ghost use Rattle.git2show_lib.specs.Machine.HeldLines.{HeldLines};
     ghost use Rattle.git2show_lib.specs.declared.lines.TheConstants.{CAPACITY};
 
-    ghost Value = { List ℕ };
+    ghost Value = { HeldLines };
 
-    ghost view = { λ lines. take lines.count lines.bytes };
+    ghost view = { λ lines. record { waiting = take lines.count lines.bytes; lent = take lines.lent lines.bytes } };
 
-    ghost invariant = { λ lines. lines.count ≤ CAPACITY };
+    ghost invariant = { λ lines. (lines.count ≤ CAPACITY) × (lines.lent ≤ CAPACITY) };
 }
 
 impl Lines {
     pub(crate) fn new() -> Self
-        ensures { result ≡ [] }
+        ensures { result.waiting ≡ [] }
     {
         Lines {
             bytes: [0; CAPACITY],
             count: 0,
+            lent: 0,
         }
     }
 
-    /// Sends all that waits.
-    fn drain<W: Write>(&mut self, writer: &mut Recorded<W>) -> Result<(), RunFault>
-        ensures sends { Sends W.contents writer.old self.old result writer.new }
-        ensures empty { OnOk result (self.new ≡ []) }
+    /// Whether no further line may be put before these are lent.
+    pub(crate) fn is_full(&self) -> bool
+        ensures { IsTrue result ↔ (FULL ≤ length self.now.waiting) }
     {
-        send(writer, &self.bytes[..self.count])?;
+        self.count >= FULL
+    }
+
+    /// Lends all that waits, if there is something.
+    pub(crate) fn lend(&mut self) -> bool
+        ensures none { result ≡ false → (self.old.waiting ≡ []) × (self.new ≡ self.old) }
+        ensures some { result ≡ true → 0 < length self.old.waiting }
+        ensures taken { self.new.waiting ≡ [] }
+        ensures lent { result ≡ true → self.new.lent ≡ self.old.waiting }
+    {
+        if self.count == 0 {
+            return false;
+        }
+        self.lent = self.count;
         self.count = 0;
-        Ok(())
+        true
     }
 
-    /// Sends all that waits, and has the writer pass it on.
-    pub(crate) fn send_all<W: Write>(&mut self, writer: &mut Recorded<W>) -> Result<(), RunFault>
-        ensures sends { Sends W.contents writer.old self.old result writer.new }
-        ensures empty { OnOk result (self.new ≡ []) }
+    /// What was lent last.
+    pub(crate) fn lent(&self) -> &[u8]
+        ensures { result.now ≡ self.now.lent }
     {
-        self.drain(writer)?;
-        flush(writer)
+        &self.bytes[..self.lent]
     }
 
-    /// Puts the line of a packet after the others, and sends them if it does not fit.
+    /// Puts the line of a packet behind the others.
     // Inlined, as all that it does once a packet: LLVM leaves what has two callers, a run with a view and one without, as calls.
     #[inline(always)]
-    pub(crate) fn put<W: Write>(
-        &mut self,
-        writer: &mut Recorded<W>,
-        packet: Packet<'_>,
-        offset: u64,
-    ) -> Result<(), RunFault>
-        ensures { Puts W.contents writer.old self.old (line_of (record { packet = seen packet.entry; offset = offset })) result writer.new self.new }
+    pub(crate) fn put(&mut self, packet: Packet<'_>, offset: u64)
+        requires space { length self.old.waiting < FULL }
+        requires fits { length (body_of (seen packet)) ≤ PAYLOAD }
+        ensures { self.new.waiting ≡ self.old.waiting ++ line_of (record { packet = seen packet.entry; offset = offset }) }
     {
-        self.emit_head(writer, packet, offset)?;
-        self.emit_escaped(writer, body(packet))?;
-        self.emit(writer, b"\n")
+        self.count = write_line(packet, offset, &mut self.bytes, self.count);
     }
 
     /// Puts what a view shows of a packet, after those that were counted, behind the others.
-    pub(crate) fn put_viewed<W: Write>(
+    pub(crate) fn put_viewed(
         &mut self,
-        writer: &mut Recorded<W>,
         view: View<'_>,
         before: Tally,
         packet: Packet<'_>,
         offset: u64,
-    ) -> Result<(), RunFault>
-        ensures { Puts W.contents writer.old self.old (view_line view.entry before (record { packet = seen packet.entry; offset = offset })) result
-            writer.new self.new }
+    )
+        requires space { length self.old.waiting < FULL }
+        requires fits { length (body_of (seen packet)) ≤ PAYLOAD }
+        ensures { self.new.waiting ≡ self.old.waiting ++ view_line view.entry before (record { packet = seen packet.entry; offset = offset }) }
     {
         if view.leaves_out(before, packet, offset) {
-            return Ok(());
+            return;
         }
         match view.form {
-            Form::Lines => self.put(writer, packet, offset),
-            Form::Columns(look) => self.put_pretty(writer, look, before.in_pack, packet, offset),
-            Form::Json => self.put_json(writer, packet, offset),
+            Form::Lines => self.put(packet, offset),
+            Form::Columns(look) => self.put_pretty(look, before.in_pack, packet, offset),
+            Form::Json => self.put_json(packet, offset),
         }
     }
 
-    /// Puts the line of columns of a packet after the others.
-    fn put_pretty<W: Write>(
-        &mut self,
-        writer: &mut Recorded<W>,
-        look: Look,
-        in_pack: bool,
-        packet: Packet<'_>,
-        offset: u64,
-    ) -> Result<(), RunFault>
-        ensures { Puts W.contents writer.old self.old
-            (pretty_line look.colours look.width in_pack (record { packet = seen packet.entry; offset = offset })) result writer.new self.new }
+    /// Puts the line of columns of a packet behind the others.
+    fn put_pretty(&mut self, look: Look, in_pack: bool, packet: Packet<'_>, offset: u64)
+        requires space { length self.old.waiting < FULL }
+        ensures { self.new.waiting
+            ≡ self.old.waiting ++ pretty_line look.colours look.width in_pack (record { packet = seen packet.entry; offset = offset }) }
     {
         let mut line = [0; LINE];
         let end = write_pretty(look, in_pack, packet, offset, &mut line);
-        self.emit(writer, &line[..end])
+        self.count = put_at(&mut self.bytes, self.count, &line[..end]);
     }
 
-    /// Puts the JSON object of a packet after the others.
-    fn put_json<W: Write>(
-        &mut self,
-        writer: &mut Recorded<W>,
-        packet: Packet<'_>,
-        offset: u64,
-    ) -> Result<(), RunFault>
-        ensures { Puts W.contents writer.old self.old (json_line (record { packet = seen packet.entry; offset = offset })) result writer.new self.new }
+    /// Puts the JSON object of a packet behind the others.
+    fn put_json(&mut self, packet: Packet<'_>, offset: u64)
+        requires space { length self.old.waiting < FULL }
+        requires fits { length (body_of (seen packet)) ≤ PAYLOAD }
+        ensures { self.new.waiting ≡ self.old.waiting ++ json_line (record { packet = seen packet.entry; offset = offset }) }
     {
-        self.emit_json_start(writer, packet, offset)?;
-        self.emit_coded(writer, Coding::of(body(packet)), body(packet))?;
-        self.emit(writer, json_end(packet))
+        self.count = write_json(packet, offset, &mut self.bytes, self.count);
     }
+}
 
-    /// Puts what a JSON object has before the payload after the others.
-    fn emit_json_start<W: Write>(
-        &mut self,
-        writer: &mut Recorded<W>,
-        packet: Packet<'_>,
-        offset: u64,
-    ) -> Result<(), RunFault>
-        ensures { Puts W.contents writer.old self.old (json_start (record { packet = seen packet.entry; offset = offset })) result writer.new self.new }
-    {
-        self.make_room(writer)?;
-        self.count = write_json_start(packet, offset, &mut self.bytes, self.count);
-        Ok(())
-    }
-
-    /// Puts what bytes become in a JSON string after the others, a block at a time.
-    fn emit_coded<W: Write>(
-        &mut self,
-        writer: &mut Recorded<W>,
-        coding: Coding,
-        bytes: &[u8],
-    ) -> Result<(), RunFault>
-        ensures { Puts W.contents writer.old self.old (flat_map (coded coding) bytes.now) result writer.new self.new }
-    {
-        for block in bytes.chunks(BLOCK) {
-            self.emit_coded_block(writer, coding, block)?;
-        }
-        Ok(())
-    }
-
-    /// Puts what one block becomes in a JSON string after the others.
-    fn emit_coded_block<W: Write>(
-        &mut self,
-        writer: &mut Recorded<W>,
-        coding: Coding,
-        block: &[u8],
-    ) -> Result<(), RunFault>
-        requires { length block.now ≤ BLOCK }
-        ensures { Puts W.contents writer.old self.old (flat_map (coded coding) block.now) result writer.new self.new }
-    {
-        self.make_room(writer)?;
-        self.count = coding.write(block, &mut self.bytes, self.count);
-        Ok(())
-    }
-
-    /// Puts what a packet's line has before the payload after the others.
-    #[inline(always)]
-    fn emit_head<W: Write>(
-        &mut self,
-        writer: &mut Recorded<W>,
-        packet: Packet<'_>,
-        offset: u64,
-    ) -> Result<(), RunFault>
-        ensures { Puts W.contents writer.old self.old (decimal offset ++ kind_shown (seen packet.entry)) result writer.new self.new }
-    {
-        self.make_room(writer)?;
-        self.count = write_head(packet, offset, &mut self.bytes, self.count);
-        Ok(())
-    }
-
-    /// Puts a few bytes after the others.
-    fn emit<W: Write>(&mut self, writer: &mut Recorded<W>, bytes: &[u8]) -> Result<(), RunFault>
-        requires { length bytes.now ≤ RUN }
-        ensures { Puts W.contents writer.old self.old bytes.now result writer.new self.new }
-    {
-        self.make_room(writer)?;
-        self.count = put_at(&mut self.bytes, self.count, bytes);
-        Ok(())
-    }
-
-    /// Puts the escapes of bytes after the others, a run at a time.
-    #[inline(always)]
-    fn emit_escaped<W: Write>(
-        &mut self,
-        writer: &mut Recorded<W>,
-        bytes: &[u8],
-    ) -> Result<(), RunFault>
-        ensures { Puts W.contents writer.old self.old (escaped_of bytes.now) result writer.new self.new }
-    {
-        for run in bytes.chunks(RUN) {
-            self.emit_run(writer, run)?;
-        }
-        Ok(())
-    }
-
-    /// Puts the escapes of a run after the others: at once where each byte is its own escape.
-    #[inline(always)]
-    fn emit_run<W: Write>(&mut self, writer: &mut Recorded<W>, bytes: &[u8]) -> Result<(), RunFault>
-        requires { length bytes.now ≤ RUN }
-        ensures { Puts W.contents writer.old self.old (escaped_of bytes.now) result writer.new self.new }
-    {
-        if bytes.len() == RUN && is_plain(bytes) {
-            return self.emit(writer, bytes);
-        }
-        self.emit_blocks(writer, bytes)
-    }
-
-    /// Puts the escapes of a run after the others, a block at a time.
-    fn emit_blocks<W: Write>(
-        &mut self,
-        writer: &mut Recorded<W>,
-        bytes: &[u8],
-    ) -> Result<(), RunFault>
-        ensures { Puts W.contents writer.old self.old (escaped_of bytes.now) result writer.new self.new }
-    {
-        for block in bytes.chunks(BLOCK) {
-            self.emit_block(writer, block)?;
-        }
-        Ok(())
-    }
-
-    /// Puts the escapes of one block after the others: at once if it is a whole one and each of its bytes is its own escape.
-    fn emit_block<W: Write>(
-        &mut self,
-        writer: &mut Recorded<W>,
-        block: &[u8],
-    ) -> Result<(), RunFault>
-        requires { length block.now ≤ BLOCK }
-        ensures { Puts W.contents writer.old self.old (escaped_of block.now) result writer.new self.new }
-    {
-        self.make_room(writer)?;
-        self.count = if block.len() == BLOCK && is_plain(block) {
-            put_at(&mut self.bytes, self.count, block)
-        } else {
-            escape_into(block, &mut self.bytes, self.count)
-        };
-        Ok(())
-    }
-
-    /// Makes space for a run.
-    fn make_room<W: Write>(&mut self, writer: &mut Recorded<W>) -> Result<(), RunFault>
-        ensures puts { Puts W.contents writer.old self.old [] result writer.new self.new }
-        ensures space { OnOk result (length self.new + RUN ≤ CAPACITY) }
-    {
-        if self.count <= CAPACITY - RUN {
-            return Ok(());
-        }
-        self.drain(writer)
-    }
+/// Writes the line of a packet to a place, over what is there, and answers where it ends.
+#[inline(always)]
+fn write_line(packet: Packet<'_>, offset: u64, out: &mut [u8], at: usize) -> usize
+    requires space { at + HEAD + 4 * length (body_of (seen packet)) + 1 ≤ length out.old }
+    ensures within { result ≤ at + HEAD + 4 * length (body_of (seen packet.entry)) + 1 }
+    ensures line { take result out.new ≡ take at out.old ++ line_of (record { packet = seen packet.entry; offset = offset }) }
+{
+    let at = write_head(packet, offset, out, at);
+    let at = write_escaped(body(packet), out, at);
+    put_at(out, at, b"\n")
 }
 
 /// Writes what a packet's line has before the payload to a place, over what is there, and answers where it ends.
@@ -307,4 +184,56 @@ fn write_head(packet: Packet<'_>, offset: u64, out: &mut [u8], at: usize) -> usi
             put_at(out, at, b" ")
         }
     }
+}
+
+/// Writes the escapes of bytes to a place, a run at a time, and answers where they end.
+#[inline(always)]
+fn write_escaped(bytes: &[u8], out: &mut [u8], at: usize) -> usize
+    requires { at + 4 * length bytes.now ≤ length out.old }
+    ensures within { result ≤ at + 4 * length bytes.now }
+    ensures escaped { take result out.new ≡ take at out.old ++ escaped_of bytes.now }
+{
+    let mut end = at;
+    for run in bytes.chunks(RUN) {
+        end = write_run(run, out, end);
+    }
+    end
+}
+
+/// Writes the escapes of a run: at once where each byte is its own escape.
+#[inline(always)]
+fn write_run(bytes: &[u8], out: &mut [u8], at: usize) -> usize
+    requires { at + 4 * length bytes.now ≤ length out.old }
+    ensures within { result ≤ at + 4 * length bytes.now }
+    ensures escaped { take result out.new ≡ take at out.old ++ escaped_of bytes.now }
+{
+    if bytes.len() == RUN && is_plain(bytes) {
+        return put_at(out, at, bytes);
+    }
+    write_blocks(bytes, out, at)
+}
+
+/// Writes the escapes of a run, a block at a time.
+fn write_blocks(bytes: &[u8], out: &mut [u8], at: usize) -> usize
+    requires { at + 4 * length bytes.now ≤ length out.old }
+    ensures within { result ≤ at + 4 * length bytes.now }
+    ensures escaped { take result out.new ≡ take at out.old ++ escaped_of bytes.now }
+{
+    let mut end = at;
+    for block in bytes.chunks(BLOCK) {
+        end = write_block(block, out, end);
+    }
+    end
+}
+
+/// Writes the escapes of one block: at once if it is a whole one and each of its bytes is its own escape.
+fn write_block(block: &[u8], out: &mut [u8], at: usize) -> usize
+    requires { at + 4 * length block.now ≤ length out.old }
+    ensures within { result ≤ at + 4 * length block.now }
+    ensures escaped { take result out.new ≡ take at out.old ++ escaped_of block.now }
+{
+    if block.len() == BLOCK && is_plain(block) {
+        return put_at(out, at, block);
+    }
+    escape_into(block, out, at)
 }

@@ -1,19 +1,18 @@
 //! Packets shown as lines.
 
-ghost use Rattle.std.specs.Prelude.{◌≡◌, ◌<◌, ◌≤◌, [], ◌∷◌, ◌||◌, None, Some, false, length, IsTrue, OnOk, OnErr, IfErr, IfOk, is_err};
+ghost use Rattle.std.specs.Prelude.{◌≡◌, ◌<◌, ◌≤◌, [], ◌∷◌, Some, false, length, IsTrue, OnOk, IfErr};
 ghost use Rattle.std.specs.Io.KnownBytes.{IsAtEnd};
 ghost use Rattle.git_pkt.specs.Machine.Recorded.{inner_of, reads_of, has_failed, has_ended, has_wasted, IsNew};
 ghost use Rattle.git_pkt.specs.Machine.Engine.{FailsAs, IsShownBy, IsSpent};
 ghost use Rattle.git_pkt.specs.Streams.{flow, is_broken, Moves};
-ghost use Rattle.git_pkt.specs.Machine.PacketReader.{fault_of, passes_of};
 ghost use Rattle.git2show_lib.specs.declared.views.RequestState.{RequestState};
-ghost use Rattle.git2show_lib.specs.Machine.ShownStream.{Shows, ShowsRequests, ShowsView, ShowsChunk, PrintsChunk, WritesFront};
+ghost use Rattle.git2show_lib.specs.Machine.ShownStream.{Shows, ShowsRequests, ShowsView};
 
-use crate::lines::Lines;
 use crate::renderers::{Plain, Renderer};
+use crate::shower::Shower;
 use crate::views::{Tally, View};
-use git_names::Steps;
-use git_pkt::{Fault, Got, PacketReader, Recorded, RunFault, receive};
+use git_loop::run;
+use git_pkt::{Recorded, RunFault};
 use std::io::{Read, Write};
 
 /// Shows the packets that a reader gives, a line each, over at most `turns` reads into the chunk. Lines of whole
@@ -99,82 +98,12 @@ fn show_by<R: Read, W: Write, V: Renderer>(
         (flow (R.remaining (inner_of reader.old)) (R.remaining (inner_of reader.new)) ∷ [])
         (flow (W.contents (inner_of writer.old)) (W.contents (inner_of writer.new)) ∷ []) }
 {
-    let mut packets = PacketReader::new();
-    let mut lines = Lines::new();
-    for _ in 0..turns {
-        let count = receive(reader, chunk)?;
-        if count == 0 {
-            return packets.close().map_err(RunFault::Refused);
-        }
-        show_chunk(
-            &mut packets,
-            &chunk[..count],
-            renderer,
-            tally,
-            &mut lines,
-            writer,
-        )?;
-    }
-    Err(RunFault::ReadLimit)
-}
-
-/// Shows the packets of a chunk, and sends their lines.
-fn show_chunk<W: Write, V: Renderer>(
-    packets: &mut PacketReader,
-    chunk: &[u8],
-    renderer: V,
-    tally: &mut Tally,
-    lines: &mut Lines,
-    writer: &mut Recorded<W>,
-) -> Result<(), RunFault>
-    requires sound { fault_of packets.old ≡ None }
-    requires gathers { passes_of packets.old ≡ false }
-    requires empty { lines.old ≡ [] }
-    requires sound_writer { has_failed writer.old ≡ false }
-    ensures shown { ShowsChunk (V.view renderer) tally.old tally.new result packets.old packets.new chunk.now
-        (flow (W.contents (inner_of writer.old)) (W.contents (inner_of writer.new))) }
-    ensures gathers { passes_of packets.new ≡ false }
-    ensures sent { OnOk result (lines.new ≡ []) }
-    ensures announced { FailsAs result false (has_failed writer.new) }
-    ensures fault { IfErr result (IsShownBy ⊥ (IsTrue (has_failed writer.new)) ⊥) }
-{
-    let stopped = print_chunk(packets, chunk, renderer, tally, lines, writer)?;
-    lines.send_all(writer)?;
-    match stopped {
+    let mut shower = Shower::new(renderer, *tally);
+    let ran = run(&mut shower, reader, writer, chunk, turns);
+    *tally = shower.tally();
+    ran?;
+    match shower.fault() {
         Some(fault) => Err(RunFault::Refused(fault)),
         None => Ok(()),
     }
-}
-
-/// Prints the packets of a chunk into the buffer of lines, up to the first fault, which is the answer.
-fn print_chunk<W: Write, V: Renderer>(
-    packets: &mut PacketReader,
-    chunk: &[u8],
-    renderer: V,
-    tally: &mut Tally,
-    lines: &mut Lines,
-    writer: &mut Recorded<W>,
-) -> Result<Option<Fault>, RunFault>
-    requires sound { fault_of packets.old ≡ None }
-    requires gathers { passes_of packets.old ≡ false }
-    requires empty { lines.old ≡ [] }
-    ensures ok { IfOk result (λ stopped. PrintsChunk (V.view renderer) tally.old tally.new stopped packets.old packets.new chunk.now lines.new
-        (flow (W.contents (inner_of writer.old)) (W.contents (inner_of writer.new)))) }
-    ensures gathers { passes_of packets.new ≡ false }
-    ensures front { OnErr result (WritesFront (V.view renderer) tally.old tally.new packets.old packets.new chunk.now
-        (flow (W.contents (inner_of writer.old)) (W.contents (inner_of writer.new)))) }
-    ensures fault { IfErr result (λ fault. fault ≡ RunFault.WriteFault) }
-    ensures failed { has_failed writer.new ≡ (has_failed writer.old || is_err result) }
-{
-    let mut done = 0;
-    while done < chunk.len() {
-        let fed = packets.feed(&chunk[done..], &mut Steps::new());
-        match fed.got {
-            Got::More => return Ok(None),
-            Got::Failed(fault) => return Ok(Some(fault)),
-            Got::Packet(packet, offset) => renderer.put(lines, writer, tally, packet, offset)?,
-        }
-        done += fed.used;
-    }
-    Ok(None)
 }

@@ -108,7 +108,7 @@ fn lines_are_flushed_before_the_next_read(rt: HostRuntime) -> Result<(), Fail> {
         TURNS,
     );
     expect(&rt, &got, &Ok(()));
-    expect(&rt, &sink.flushes, &3);
+    expect(&rt, &sink.flushes, &5);
     expect(&rt, &sink.flushed, &sink.taken.len());
     Ok(())
 }

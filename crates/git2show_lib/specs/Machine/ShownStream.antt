@@ -1,14 +1,10 @@
 -- What showing a stream results in.
-use Rattle.std.specs.Prelude.{◌≡◌, ℕ, ◌-◌, ◌≤◌, Bool, true, false, List, [], ◌∷◌, ◌++◌, length, take, Result, Ok, Err, Option, Some, None}
+use Rattle.std.specs.Prelude.{◌≡◌, ℕ, ◌-◌, ◌≤◌, Bool, true, List, [], ◌∷◌, ◌++◌, length, Result, Ok, Err, Option, Some}
 use Rattle.git_pkt.specs.Splits.{Given, Splits}
 use Rattle.git_pkt.specs.Faults.{IsOpen, StopsBy}
-use Rattle.git_pkt.specs.Machine.PacketReader.{ReadsOn, ShownByFeed, fault_of}
-use Rattle.git_pkt.specs.declared.fault.Fault.{Fault}
-use Rattle.git_pkt.specs.Streams.{Flow, WrittenAs, IsTimely}
+use Rattle.git_pkt.specs.Streams.{IsTimely}
 use Rattle.git_pkt.specs.declared.fault.RunFault.{RunFault}
 use Rattle.git_pkt.specs.declared.fault.RunFault.TheVariants.{ReadFault, WriteFault, ReadLimit, Refused}
-use Rattle.git_pkt.specs.declared.reader.PacketReader.{PacketReader}
-use Rattle.git_client.specs.Machine.LineParts.{PutAs}
 use Rattle.git2show_lib.specs.PacketLines.{lines_of}
 use Rattle.git2show_lib.specs.PacketViews.{looked_for, of_any_command, shown, tally_of}
 use Rattle.git2show_lib.specs.declared.views.Tally.{Tally}
@@ -49,41 +45,3 @@ pub record ShowsView (view : Option View) (start final : Tally) (result : Result
 -- what the view shows, if it looks for no command, of the packets that it looks for
 abbrev pub ShowsRequests : View → Tally → Result (Unit {0}) RunFault → Bool → ℕ → List (List ℕ) → List (List ℕ) → Type 0
 ShowsRequests view start = ShowsAs (λ given. shown (Some (of_any_command view)) start (looked_for view.only given))
-
--- the reader went on over these bytes, and what is shown of its packets was sent or waits
-pub record Prints (view : Option View) (start final : Tally) (old new : PacketReader) (bytes waiting : List ℕ) (writer : Flow) : Type 0 where
-  pub packets : List Given
-  pub reads : ReadsOn old bytes packets new
-  pub put : PutAs false writer [] (shown view start packets) waiting
-  pub tally : final ≡ tally_of view start packets
-
--- the reader went on over these bytes, and what is shown of its packets was written, or a front of it
-pub record Writes (view : Option View) (start final : Tally) (broken : Bool) (old new : PacketReader) (bytes : List ℕ) (writer : Flow) : Type 0 where
-  pub packets : List Given
-  pub reads : ReadsOn old bytes packets new
-  pub written : WrittenAs broken writer (shown view start packets)
-  pub tally : final ≡ tally_of view start packets
-
--- the reader met this fault when it had used so many bytes of the chunk
-pub record MeetsFault (f : Fault) (new : PacketReader) (chunk : List ℕ) (used : ℕ) : Type 0 where
-  pub announced : fault_of new ≡ Some f
-  pub shown : ShownByFeed f used chunk
-
-module _ (view : Option View) (start final : Tally) where
-  -- all of the chunk was used and printed, or a front of it up to a fault
-  abbrev pub PrintsChunk : Option Fault → PacketReader → PacketReader → List ℕ → List ℕ → Flow → Type 0
-  PrintsChunk None old new chunk waiting writer = Prints view start final old new chunk waiting writer × (fault_of new ≡ None)
-  PrintsChunk (Some f) old new chunk waiting writer =
-      (used : ℕ) × Prints view start final old new (take used chunk) waiting writer × MeetsFault f new chunk used
-
-  -- a front of the chunk was used, and a front of its lines written
-  abbrev pub WritesFront : PacketReader → PacketReader → List ℕ → Flow → Type 0
-  WritesFront old new chunk writer = (used : ℕ) × Writes view start final true old new (take used chunk) writer
-
-  -- all of the chunk was used and its lines were written, or those of a front of it up to a fault; or a write failed somewhere in it
-  abbrev pub ShowsChunk : Result (Unit {0}) RunFault → PacketReader → PacketReader → List ℕ → Flow → Type 0
-  ShowsChunk (Ok done) old new chunk writer = Writes view start final false old new chunk writer × (fault_of new ≡ None)
-  ShowsChunk (Err WriteFault) old new chunk writer = WritesFront old new chunk writer
-  ShowsChunk (Err (Refused f)) old new chunk writer =
-      (used : ℕ) × Writes view start final false old new (take used chunk) writer × MeetsFault f new chunk used
-  ShowsChunk (Err fault) old new chunk writer = ⊥

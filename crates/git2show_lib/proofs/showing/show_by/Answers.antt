@@ -1,45 +1,31 @@
-use Rattle.std.proofs.Common.{rules, arith, [], take, ℕ, subst}
-use Rattle.std.proofs.lemmas.Grind.{common_steps}
-use Rattle.std.proofs.lemmas.Result.{err_from_is_err_and}
-use Rattle.std.specs.Io.KnownBytes.{Consumes}
-use Rattle.git_pkt.specs.Machine.Recorded.{inner_of}
-use Rattle.git2show_lib.proofs.Printing.{shows_more, stops_by, ends_unread, ends_spent, ends_closed}
+use Rattle.std.proofs.Common.{sym, ◌∙◌}
+use Rattle.git_pkt.specs.Machine.Recorded.{has_ended}
+use Rattle.git2show_lib.proofs.Printing.{shows_at, shows_closed, shows_stopped}
 use Rattle.git2show_lib.proofs.showing.show_by.Goals as goal
 
-pub returns-in_err-count-clause-shown : goal.returns-in_err-count-clause-shown
-returns-in_err-count-clause-shown g c =
-    let met = err_from_is_err_and c.from_residual.result c.from_residual.ensures.1 in
-    rw (met.1, met.2, c.in_err-count.ensures.fault)
-    (ends_unread _ _ _ c.loop.packets c.loop.invariant.sound c.loop.invariant.shows c.in_err-count.ensures.bytes)
+pub returns-in_err-ran-clause-shown : goal.returns-in_err-ran-clause-shown
+returns-in_err-ran-clause-shown g c =
+    rw c.tally.ensures (shows_at c.run-ran.new.machine (has_ended c.run-ran.new.reader) c.args.turns c.new-shower.ensures.shown c.new-shower.ensures.waits
+    c.from_residual.result c.in_err-ran.field-0.0 c.from_residual.ensures.1 c.in_err-ran.ensures.ran)
 
-pub returns-then-count-eq0-clause-shown : goal.returns-then-count-eq0-clause-shown
-returns-then-count-eq0-clause-shown g c =
-    let left = g.R.Read.remaining (inner_of c.loop.reader) in
-    let left_after = g.R.Read.remaining (inner_of c.receive.new.reader) in
-    let nothing : Consumes left left_after [] =
-    subst (λ (n : ℕ). Consumes left left_after (take n c.receive.new.chunk)) c.if-count-eq0.true c.in_ok-count.ensures.bytes.0 in
-    ends_closed _ _ _ c.loop.packets c.close.new.self c.loop.invariant.shows nothing c.close.ensures.carries (grind (arith, common_steps))
-    c.close.result c.map_err.result c.map_err.ensures.cases c.close.ensures.between c.close.ensures.announced (c.close.ensures.truncated c.loop.invariant.sound)
+pub returns-in-Some-clause-shown : goal.returns-in-Some-clause-shown
+returns-in-Some-clause-shown g c =
+    rw c.tally.ensures (shows_stopped c.run-ran.new.machine (has_ended c.run-ran.new.reader) c.args.turns c.new-shower.ensures.shown
+    c.new-shower.ensures.waits c.in-Some.fault c.in_ok-ran.ensures.ran (sym c.fault.ensures ∙ c.in-Some.is))
 
-pub returns-in_err-show_chunk-clause-shown : goal.returns-in_err-show_chunk-clause-shown
-returns-in_err-show_chunk-clause-shown g c =
-    let met = err_from_is_err_and c.from_residual-in_err-show_chunk.result c.from_residual-in_err-show_chunk.ensures.1 in
-    rw (met.1, met.2)
-    (stops_by _ _ _ _ _ _ _ c.loop.invariant.shows c.in_ok-count.ensures.bytes.0 c.in_err-show_chunk.ensures.shown)
+pub returns-in-None-clause-ok : goal.returns-in-None-clause-ok
+returns-in-None-clause-ok g c =
+    let shows = shows_closed c.run-ran.new.machine (has_ended c.run-ran.new.reader) c.args.turns c.new-shower.ensures.shown c.new-shower.ensures.waits
+    c.in_ok-ran.ensures.ran (sym c.fault.ensures ∙ c.in-None.is) in
+    shows.related.shows.ends.2
 
-pub loop-preserved : goal.loop-preserved
-loop-preserved g c = record {
-  reads = search rules;
-  reader_sound = search rules;
-  open_ended = search rules;
-  useful = search rules;
-  writer_sound = search rules;
-  sound = c.in_ok-show_chunk.ensures.shown.1;
-  gathers = search rules;
-  empty = search rules;
-  shows = shows_more c.loop.packets c.show_chunk.new.packets c.loop.counter c.in_ok-count.count c.receive.new.chunk c.loop.invariant.shows
-      c.in_ok-count.ensures.bytes.0 c.in_ok-show_chunk.ensures.shown.0 (search rules) (search rules);
-}
+pub returns-in-None-clause-end : goal.returns-in-None-clause-end
+returns-in-None-clause-end g c =
+    let shows = shows_closed c.run-ran.new.machine (has_ended c.run-ran.new.reader) c.args.turns c.new-shower.ensures.shown c.new-shower.ensures.waits
+    c.in_ok-ran.ensures.ran (sym c.fault.ensures ∙ c.in-None.is) in
+    c.run-ran.ensures.at_end shows.related.shows.ends.2
 
-pub returns-clause-shown : goal.returns-clause-shown
-returns-clause-shown g c = ends_spent _ _ _ c.loop.packets c.loop.invariant.sound c.loop.invariant.shows (search rules)
+pub returns-in-None-clause-shown : goal.returns-in-None-clause-shown
+returns-in-None-clause-shown g c =
+    rw c.tally.ensures (shows_closed c.run-ran.new.machine (has_ended c.run-ran.new.reader) c.args.turns c.new-shower.ensures.shown
+    c.new-shower.ensures.waits c.in_ok-ran.ensures.ran (sym c.fault.ensures ∙ c.in-None.is))
