@@ -29,12 +29,12 @@ pub(crate) fn run_fetch(rt: &HostRuntime, matches: &ArgMatches<'_>) -> Result<()
     let requests = read_requests(rt, matches, format_of(matches))?;
     let path = matches.get_str("pack").unwrap_or("");
     let PackFile { file, part } = PackFile::open(rt, path).map_err(pack_failure)?;
-    let done = fetch_into(rt, matches, requests, file);
+    let done = fetch_into(rt, matches, requests, &file);
     let Some(part) = part else {
         return done;
     };
     match done {
-        Ok(()) => part.finish(rt).map_err(pack_failure),
+        Ok(()) => part.finish(rt, &file).map_err(pack_failure),
         Err(failure) => {
             part.remove(rt);
             Err(failure)
@@ -52,7 +52,7 @@ fn fetch_into(
     rt: &HostRuntime,
     matches: &ArgMatches<'_>,
     requests: Vec<Request<Global>>,
-    pack: File,
+    pack: &File,
 ) -> Result<(), Failure> {
     match matches.get_str("transcript") {
         Some(path) => {
@@ -77,7 +77,7 @@ fn fetch<O: Write + Drop>(
     rt: &HostRuntime,
     matches: &ArgMatches<'_>,
     requests: Vec<Request<Global>>,
-    pack: File,
+    pack: &File,
     transcript: Watched<O>,
 ) -> Result<(), Failure> {
     let mut client = Client::new(format_of(matches), ending_of(matches));
@@ -101,7 +101,7 @@ fn ask_all<O: Write + Drop, E: Output>(
     rt: &HostRuntime,
     client: &mut Client<Global>,
     requests: Vec<Request<Global>>,
-    pack: File,
+    pack: &File,
     mut transcript: Watched<O>,
     progress: &mut E,
 ) -> Result<(), Failure>

@@ -79,13 +79,18 @@ impl Part {
         Err(ErrorKind::AlreadyExists.into())
     }
 
-    /// Puts the file in its place, or removes it if that fails.
-    pub(crate) fn finish(self, rt: &HostRuntime) -> io::Result<()> {
-        let renamed = fs::rename(rt, &self.path, &self.place);
-        if renamed.is_err() {
+    /// Puts the file in its place once the system has stored its bytes, or removes it if that fails: a write may fail as late as that.
+    pub(crate) fn finish(self, rt: &HostRuntime, file: &File) -> io::Result<()> {
+        let placed = self.place_stored(rt, file);
+        if placed.is_err() {
             self.remove(rt);
         }
-        renamed
+        placed
+    }
+
+    fn place_stored(&self, rt: &HostRuntime, file: &File) -> io::Result<()> {
+        file.sync_all()?;
+        fs::rename(rt, &self.path, &self.place)
     }
 
     /// Removes the file, and leaves what is in its place.
