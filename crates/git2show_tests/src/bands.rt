@@ -92,7 +92,7 @@ fn a_part_is_all_that_the_chunk_has(rt: HostRuntime) -> Result<(), Fail> {
 }
 
 /// Appends the bytes of an event of side bands, and a bar; the name of any other event.
-fn receive_response(arrived: &mut Vec<u8>, event: &Event<'_>) -> Result<(), AllocError> {
+fn append_event(arrived: &mut Vec<u8>, event: &Event<'_>) -> Result<(), AllocError> {
     match event {
         Event::Pack(bytes) => arrived.extend_from_slice(bytes)?,
         Event::Progress(bytes) => arrived.extend_from_slice(bytes)?,
@@ -109,7 +109,7 @@ fn receive_chunk(
     arrived: &mut Vec<u8>,
 ) -> Result<(), AllocError> {
     match client.feed(chunk, &mut Steps::new()).got {
-        ReceivedGot::Event(event) => receive_response(arrived, &event),
+        ReceivedGot::Event(event) => append_event(arrived, &event),
         _ => Ok(()),
     }
 }

@@ -98,7 +98,7 @@ fn request<'h>(rt: &impl Abort, heap: &'h LocalHeap) -> Option<Request<&'h Local
 }
 
 /// Feeds a client. Returns the bytes that it did not use, unless it fails.
-fn receive_response<'a>(client: &mut Client<&LocalHeap>, chunk: &'a [u8]) -> Option<&'a [u8]> {
+fn feed_client<'a>(client: &mut Client<&LocalHeap>, chunk: &'a [u8]) -> Option<&'a [u8]> {
     let arrived = client.feed(chunk, &mut Steps::new());
     match arrived.got {
         ReceivedGot::Failed(_) => None,
@@ -130,7 +130,7 @@ fn ask(rt: &impl Abort, heap: &LocalHeap, input: &[u8], packets: usize) -> usize
     let mut rest = input;
     let mut most = 0;
     for _ in 0..PACKETS {
-        let Some(unused) = receive_response(&mut client, rest) else {
+        let Some(unused) = feed_client(&mut client, rest) else {
             break;
         };
         rest = unused;

@@ -166,7 +166,7 @@ fn new_reader<A: Allocator + Copy>(alloc: A) -> RequestReader<A> {
 }
 
 /// Gives the reader a packet. It keeps its argument, if it is one.
-fn receive_response<A: Allocator + Copy>(
+fn take_packet<A: Allocator + Copy>(
     reader: &mut RequestReader<A>,
     packet: Packet<'_>,
     offset: u64,
@@ -184,7 +184,7 @@ fn expect_kept<A: Allocator + Copy>(
     packet: Packet<'_>,
     offset: u64,
 ) {
-    expect(rt, &receive_response(reader, packet, offset), &Ok(()));
+    expect(rt, &take_packet(reader, packet, offset), &Ok(()));
 }
 
 #[test]
@@ -201,14 +201,10 @@ fn a_reader_without_memory_refuses_the_first_prefix(rt: HostRuntime) -> Result<(
     expect_kept(&rt, &mut reader, Packet::Payload(b"peel\n"), 24);
     expect(
         &rt,
-        &receive_response(&mut reader, Packet::Payload(b"ref-prefix a\n"), 33),
+        &take_packet(&mut reader, Packet::Payload(b"ref-prefix a\n"), 33),
         &refused,
     );
-    expect(
-        &rt,
-        &receive_response(&mut reader, Packet::Flush, 50),
-        &refused,
-    );
+    expect(&rt, &take_packet(&mut reader, Packet::Flush, 50), &refused);
     Ok(())
 }
 
@@ -254,13 +250,9 @@ fn arrived_within(
     expect_kept(rt, &mut reader, Packet::Payload(b"deepen 2147483647\n"), 22);
     expect_kept(rt, &mut reader, Packet::Payload(b"deepen-relative\n"), 44);
     expect_kept(rt, &mut reader, Packet::Payload(b"deepen-since 0\n"), 64);
-    let arrived = receive_response(&mut reader, Packet::Payload(line), 100);
+    let arrived = take_packet(&mut reader, Packet::Payload(line), 100);
     if arrived.is_err() {
-        expect(
-            rt,
-            &receive_response(&mut reader, Packet::Flush, 150),
-            &arrived,
-        );
+        expect(rt, &take_packet(&mut reader, Packet::Flush, 150), &arrived);
     }
     Ok(arrived)
 }

@@ -68,7 +68,7 @@ pub fn written(alloc: Global, request: &Request<Global>, caps: &Caps) -> Result<
 
 impl Asking {
     // Adds an argument, and returns the result.
-    fn announced(
+    fn add_argument(
         self,
         alloc: Global,
         request: &mut Request<Global>,
@@ -92,7 +92,7 @@ impl Asking {
     }
 
     // Adds the argument of each step, and returns the results.
-    fn all_announced(
+    fn add_all(
         self,
         alloc: Global,
         request: &mut Request<Global>,
@@ -101,7 +101,7 @@ impl Asking {
         let mut announced = Vec::new(alloc);
         let mut last = Step::default();
         for step in script.steps.as_slice() {
-            let line = self.announced(alloc, request, script.between(last, *step))?;
+            let line = self.add_argument(alloc, request, script.between(last, *step))?;
             append(&mut announced, line.as_bytes())?;
             last = *step;
         }
@@ -112,7 +112,7 @@ impl Asking {
     pub fn goes(self, alloc: Global, script: &Script) -> Result<usize, Trouble> {
         let limits = limits(self.limit);
         let mut request = Request::new(alloc, self.command, self.format, limits);
-        let announced = self.all_announced(alloc, &mut request, script)?;
+        let announced = self.add_all(alloc, &mut request, script)?;
         same(alloc, announced.as_slice(), script.given.as_slice())?;
         let written = self.written(alloc, &request)?;
         same(alloc, written.as_slice(), script.ending.as_bytes())?;

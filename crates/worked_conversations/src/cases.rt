@@ -15,7 +15,7 @@ use std::alloc::{AllocError, Global};
 use std::fs;
 
 /// The default limit of a request's arguments.
-const USUAL: u32 = 16_777_216;
+const DEFAULT_LIMIT: u32 = 16_777_216;
 
 /// The default number of columns of a line.
 const COLUMNS: u32 = 80;
@@ -109,7 +109,7 @@ impl<'a> Words<'a> {
     }
 
     fn limit(self) -> Result<u32, Trouble> {
-        Ok(self.number("limit")?.unwrap_or(USUAL))
+        Ok(self.number("limit")?.unwrap_or(DEFAULT_LIMIT))
     }
 
     // How a pack is read. If no failing read is named, the first to fail is one that no run makes.

@@ -1,6 +1,6 @@
 //! Recorded streams that are checked against each other.
 
-use crate::escapes::length_announced;
+use crate::escapes::packet_length;
 use crate::runs::{Expected, Known, Run, compare};
 use crate::script::Script;
 use crate::setup::{MANY, TURNS};
@@ -106,7 +106,7 @@ fn responses_before(script: &Script, given: usize) -> usize {
             return step.input;
         }
     }
-    script.announced()
+    script.length()
 }
 
 /// How far the requests go up to a byte.
@@ -130,7 +130,7 @@ fn reached(asked: &[u8], at: usize) -> Place {
         let digits = asked
             .get(reached.end..reached.end.saturating_add(4))
             .unwrap_or(&[]);
-        let Some(length) = length_announced(digits) else {
+        let Some(length) = packet_length(digits) else {
             return reached;
         };
         let end = reached.end.saturating_add(length.max(4));

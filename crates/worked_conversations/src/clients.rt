@@ -122,9 +122,9 @@ impl<'a> Talk<'a> {
             shows_sent: !script.asked.is_empty(),
             notes: Notes::new(alloc),
         };
-        talk.receive_response(setup.arrived)?;
+        talk.receive_chunk(setup.arrived)?;
         if talk.client.position() != setup.arrived.len() as u64 {
-            return Err(Trouble::BadCase("more than an advertisement was heard before"));
+            return Err(Trouble::BadCase("more than an advertisement was received before"));
         }
         talk.notes = Notes::new(alloc);
         talk.wordings = script.wordings.as_slice();
@@ -170,7 +170,7 @@ impl<'a> Talk<'a> {
     // Asks the next request, or leaves. Returns whether there was something to do.
     fn ask(&mut self) -> Result<bool, Trouble> {
         if !self.client.can_ask() {
-            return Err(Trouble::Breaks("a client that can be asked says that it cannot"));
+            return Err(Trouble::Breaks("a client that can ask reports that it cannot"));
         }
         let Some((wording, rest)) = self.wordings.split_first() else {
             if self.leaves {
@@ -220,7 +220,7 @@ impl<'a> Talk<'a> {
         let rest = &chunk[arrived.used..];
         match arrived.got {
             ReceivedGot::More if is_wanted && !rest.is_empty() => {
-                Err(Trouble::Breaks("a piece is not used up"))
+                Err(Trouble::Breaks("a chunk is not used up"))
             }
             ReceivedGot::More | ReceivedGot::Failed(_) => Ok(None),
             ReceivedGot::Event(event) => {
@@ -231,7 +231,7 @@ impl<'a> Talk<'a> {
     }
 
     // Receives a chunk up to the point where no more input is needed, and sends what has to be sent in between.
-    fn receive_response(&mut self, chunk: &[u8]) -> Result<(), Trouble> {
+    fn receive_chunk(&mut self, chunk: &[u8]) -> Result<(), Trouble> {
         let mut rest = chunk;
         for _ in 0..=chunk.len() {
             let Some(left) = self.receive_event(rest)? else {
@@ -240,7 +240,7 @@ impl<'a> Talk<'a> {
             rest = left;
             self.send_all()?;
         }
-        Err(Trouble::Breaks("a piece has events without an end"))
+        Err(Trouble::Breaks("a chunk has events without an end"))
     }
 
     // Whether it reports that it needs input.
@@ -262,14 +262,14 @@ impl<'a> Talk<'a> {
             return Ok(());
         }
         if !self.needs_input() {
-            return Err(Trouble::Breaks("a client that wants input does not say so"));
+            return Err(Trouble::Breaks("a client that wants input does not report it"));
         }
         if !self.client.wants_input() {
-            return Err(Trouble::Breaks("a client wants input no more once it said so"));
+            return Err(Trouble::Breaks("a client wants no more input once it reported that"));
         }
         let fault = self.client.close();
         if self.fault() != Some(fault) {
-            return Err(Trouble::Breaks("a client that was closed tells another fault"));
+            return Err(Trouble::Breaks("a client that was closed reports another fault"));
         }
         Ok(())
     }
@@ -338,7 +338,7 @@ pub fn fed(
 ) -> Result<Run, Trouble> {
     let mut talk = Talk::new(alloc, setup, script)?;
     for chunk in chunks {
-        talk.receive_response(chunk)?;
+        talk.receive_chunk(chunk)?;
     }
     talk.close()?;
     let mut ending = talk.ended()?;

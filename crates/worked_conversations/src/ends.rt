@@ -127,7 +127,7 @@ impl<'a> End<'a> {
 
     /// How many bytes of all its steps it does not use: the byte past the last position.
     pub fn unread(&self, script: &Script) -> usize {
-        let last = self.start().saturating_add(script.announced() as u64);
+        let last = self.start().saturating_add(script.length() as u64);
         usize::from(last > LAST_POSITION)
     }
 

@@ -27,7 +27,7 @@ fn digit(byte: u8) -> Option<u8> {
 }
 
 /// The length in the four digits of a packet.
-pub fn length_announced(digits: &[u8]) -> Option<usize> {
+pub fn packet_length(digits: &[u8]) -> Option<usize> {
     let [first, second, third, fourth] = digits else {
         return None;
     };

@@ -83,7 +83,7 @@ impl<S: Reports> Host<S> {
             }
             Verdict::Refused(text) => {
                 if !self.server.refuse(text.as_slice()) {
-                    return Err(Trouble::BadCase("a refusal that no packet has room for"));
+                    return Err(Trouble::BadCase("a refusal that fits into no packet"));
                 }
                 self.sent(output)
             }

@@ -58,6 +58,15 @@ fn run(rt: &HostRuntime, count: &mut Count) -> Result<(), Trouble> {
     Ok(())
 }
 
+/// The line that reports why a file was not run to its end.
+fn reason_of(trouble: &Trouble) -> &'static str {
+    match trouble {
+        Trouble::OutOfMemory => "worked_conversations: memory ran out",
+        Trouble::BadCase(_) => "worked_conversations: a file is no text in UTF-8",
+        _ => "worked_conversations: a file cannot be read",
+    }
+}
+
 fn main(rt: HostRuntime) -> io::Result<ExitCode> {
     let mut count = Count::default();
     let went = run(&rt, &mut count);
@@ -66,8 +75,8 @@ fn main(rt: HostRuntime) -> io::Result<ExitCode> {
     match went {
         Ok(()) if failed == 0 => Ok(ExitCode::SUCCESS),
         Ok(()) => Ok(ExitCode::FAILURE),
-        Err(_) => {
-            rt.eprintln("worked_conversations: a file cannot be read, or memory ran out")?;
+        Err(trouble) => {
+            rt.eprintln(reason_of(&trouble))?;
             Ok(ExitCode::FAILURE)
         }
     }

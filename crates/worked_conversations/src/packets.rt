@@ -48,7 +48,7 @@ fn check_hold(reader: &mut PacketReader, came: &[u8]) -> Result<(), Trouble>
     }
     let used = reader.feed(b"", &mut Steps::new()).used;
     if used != 0 || !came.ends_with(reader.hold().as_slice()) {
-        return Err(Trouble::Breaks("an empty piece changes the hold"));
+        return Err(Trouble::Breaks("an empty chunk changes the hold"));
     }
     if reader.is_open() {
         return Err(Trouble::Breaks("a packet is open after a whole one"));
@@ -111,7 +111,7 @@ fn feed(
         let used = reader.position().saturating_sub(start) as usize;
         check_hold(reader, input.get(..used).unwrap_or(&[]))?;
     }
-    Err(Trouble::Breaks("a piece is never used up"))
+    Err(Trouble::Breaks("a chunk is never used up"))
 }
 
 // A reader that failed uses nothing more, has no packet open, and keeps reporting the same error.

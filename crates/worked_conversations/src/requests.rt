@@ -109,6 +109,36 @@ fn append_filters(
     Ok(())
 }
 
+// Appends the prefixes of the references that a request asks for.
+fn append_ref_prefixes(
+    alloc: Global,
+    lines: &mut Vec<u8>,
+    request: &Request<Global>,
+) -> Result<(), AllocError> {
+    for i in 0..MANY {
+        match request.ref_prefix(i) {
+            Some(prefix) => append_text(alloc, lines, "ref-prefix", prefix)?,
+            None => break,
+        }
+    }
+    Ok(())
+}
+
+// Appends the names of the references that a request wants.
+fn append_want_refs(
+    alloc: Global,
+    lines: &mut Vec<u8>,
+    request: &Request<Global>,
+) -> Result<(), AllocError> {
+    for i in 0..MANY {
+        match request.want_ref(i) {
+            Some(name) => append_text(alloc, lines, "want-ref", name)?,
+            None => break,
+        }
+    }
+    Ok(())
+}
+
 // Appends what a request asks for, a line each.
 fn append_request(
     alloc: Global,
@@ -131,20 +161,10 @@ fn append_request(
     ];
     append_flags(lines, &flags)?;
     append_filters(alloc, lines, request)?;
-    for i in 0..MANY {
-        match request.ref_prefix(i) {
-            Some(prefix) => append_text(alloc, lines, "ref-prefix", prefix)?,
-            None => break,
-        }
-    }
+    append_ref_prefixes(alloc, lines, request)?;
     append_shallow(alloc, lines, request)?;
     append_objects(alloc, lines, "want", request.wants())?;
-    for i in 0..MANY {
-        match request.want_ref(i) {
-            Some(name) => append_text(alloc, lines, "want-ref", name)?,
-            None => break,
-        }
-    }
+    append_want_refs(alloc, lines, request)?;
     append_objects(alloc, lines, "have", request.haves())?;
     append_flags(lines, &[(request.done(), "done"), (request.size(), "size")])?;
     append_objects(alloc, lines, "oid", request.oids())
@@ -181,7 +201,7 @@ fn refused(alloc: Global, keeper: &mut Keeper, fault: Fault) -> Result<String, T
 }
 
 // Gives the reader a packet, and appends the line of its result. Returns how the reader ended, if it did.
-fn receive_response(
+fn take_packet(
     alloc: Global,
     keeper: &mut Keeper,
     packet: Packet<'_>,
@@ -229,9 +249,7 @@ fn feed_packet<'a>(
     match fed.got {
         Got::More => Ok(Used::Whole),
         Got::Failed(fault) => Ok(Used::Ended(format!(in alloc; "refused {fault}\n")?)),
-        Got::Packet(packet, offset) => match receive_response(
-            alloc, keeper, packet, offset, lines,
-        )? {
+        Got::Packet(packet, offset) => match take_packet(alloc, keeper, packet, offset, lines)? {
             Some(ending) => Ok(Used::Ended(ending)),
             None => Ok(Used::Front(rest)),
         },
@@ -257,7 +275,7 @@ fn feed(
             Used::Ended(ending) => return Ok(Some(ending)),
         }
     }
-    Err(Trouble::Breaks("a piece is never used up"))
+    Err(Trouble::Breaks("a chunk is never used up"))
 }
 
 /// What a reader with this limit receives in the chunks. Then the input ends.

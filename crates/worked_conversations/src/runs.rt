@@ -1,7 +1,7 @@
 //! One side over an input that is cut in every way and ended everywhere, and the expected result.
 
 use crate::ends::End;
-use crate::escapes::{escaped, length_announced};
+use crate::escapes::{escaped, packet_length};
 use crate::script::{Script, Step};
 use crate::setup::MANY;
 use crate::texts::copied;
@@ -105,7 +105,7 @@ fn last_packet(input: &[u8], at: usize) -> usize {
     let mut end = 0usize;
     for _ in 0..MANY {
         let digits = input.get(end..end.saturating_add(4)).unwrap_or(&[]);
-        let Some(next) = length_announced(digits).map(|length| end.saturating_add(length.max(4)))
+        let Some(next) = packet_length(digits).map(|length| end.saturating_add(length.max(4)))
         else {
             return end;
         };
@@ -142,7 +142,7 @@ pub fn expected_at(
     script: &Script,
     at: usize,
 ) -> Result<Expected, Trouble> {
-    let announced = script.announced();
+    let announced = script.length();
     if announced <= at {
         return Ok(Expected {
             given: copied(alloc, script.given.as_slice())?,
@@ -181,7 +181,7 @@ fn first_line(text: &str) -> &str {
 }
 
 // Reports bytes other than the expected ones.
-fn announced(alloc: Global, place: usize, what: &str, came: &[u8]) -> Result<Trouble, AllocError> {
+fn difference(alloc: Global, place: usize, what: &str, came: &[u8]) -> Result<Trouble, AllocError> {
     let came = escaped(alloc, came)?;
     let came = String::from_utf8_lossy(alloc, came.as_slice())?;
     let came = came.as_str();
@@ -204,7 +204,7 @@ pub fn compare(alloc: Global, run: &Run, expected: &Expected, place: usize) -> R
         ("progress", &run.progress, &expected.progress),
     ] {
         if !is_expected(came, wanted, expected.known) {
-            return Err(announced(alloc, place, what, came.as_slice())?);
+            return Err(difference(alloc, place, what, came.as_slice())?);
         }
     }
     let (came, wanted) = (run.ending.as_str(), expected.ending.as_str());
@@ -213,12 +213,12 @@ pub fn compare(alloc: Global, run: &Run, expected: &Expected, place: usize) -> R
         Known::Given | Known::Front => first_line(came) == first_line(wanted),
     };
     if !is_same {
-        return Err(announced(alloc, place, "ended", came.as_bytes())?);
+        return Err(difference(alloc, place, "ended", came.as_bytes())?);
     }
     match run.used {
         Some(used) if used != expected.used => {
             let used = format!(in alloc; "{used}")?;
-            Err(announced(alloc, place, "used", used.as_bytes())?)
+            Err(difference(alloc, place, "used", used.as_bytes())?)
         }
         _ => Ok(()),
     }

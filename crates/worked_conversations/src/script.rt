@@ -384,7 +384,7 @@ impl Script {
     }
 
     /// How many bytes all steps have together.
-    pub fn announced(&self) -> usize {
+    pub fn length(&self) -> usize {
         match self.steps.as_slice().last() {
             Some(step) => step.input,
             None => 0,
@@ -406,7 +406,7 @@ impl Script {
         if !asks_the_store(self.ending.as_str()) {
             return Err(Trouble::BadCase("a host refuses this as any server does"));
         }
-        let end = self.announced();
+        let end = self.length();
         let rest = self.input.as_slice().get(end..).unwrap_or(&[]);
         let rest = copied(alloc, rest)?;
         self.input.truncate(end);

@@ -93,7 +93,7 @@ fn feed<S: Serves>(
             return Ok((outcome, chunk.len().saturating_sub(rest.len())));
         }
     }
-    Err(Trouble::Breaks("a piece is never used up"))
+    Err(Trouble::Breaks("a chunk is never used up"))
 }
 
 // Feeds all chunks to a new server. Returns its last outcome, and how many bytes it used.

@@ -46,7 +46,7 @@ enum LineContent<'a> {
 }
 
 // Appends a line of a word and bytes in their escaped form.
-fn send_all(
+fn append_line(
     alloc: Global,
     lines: &mut Vec<u8>,
     word: &str,
@@ -64,18 +64,18 @@ fn send_all(
 }
 
 fn state_payload(alloc: Global, lines: &mut Vec<u8>, payload: &[u8]) -> Result<(), AllocError> {
-    send_all(alloc, lines, "text", LineContent::Bytes(text(payload)))?;
+    append_line(alloc, lines, "text", LineContent::Bytes(text(payload)))?;
     if payload.len() > 65_516 {
         return Ok(());
     }
     let mut hold = Hold::new();
     put(&mut hold, Packet::Payload(payload));
-    send_all(alloc, lines, "packet", LineContent::Bytes(hold.as_slice()))
+    append_line(alloc, lines, "packet", LineContent::Bytes(hold.as_slice()))
 }
 
 // Appends the line of an object name, as it is written.
 fn state_object(alloc: Global, lines: &mut Vec<u8>, word: &str, id: Oid) -> Result<(), AllocError> {
-    send_all(
+    append_line(
         alloc,
         lines,
         word,
@@ -91,7 +91,7 @@ fn state_number(
     number: u64,
 ) -> Result<(), AllocError> {
     let number = format!(in alloc; "{number}")?;
-    send_all(alloc, lines, word, LineContent::Bytes(number.as_bytes()))
+    append_line(alloc, lines, word, LineContent::Bytes(number.as_bytes()))
 }
 
 fn state_object_name(
@@ -102,7 +102,7 @@ fn state_object_name(
 ) -> Result<(), AllocError> {
     match Oid::read(format, text, &mut Steps::new()) {
         Ok(id) => state_object(alloc, lines, "object", id),
-        Err(fault) => send_all(
+        Err(fault) => append_line(
             alloc,
             lines,
             format!(in alloc; "{fault}")?.as_str(),
@@ -113,19 +113,19 @@ fn state_object_name(
 
 fn state_reference_name(alloc: Global, lines: &mut Vec<u8>, text: &[u8]) -> Result<(), AllocError> {
     match RefName::read(text, &mut Steps::new()) {
-        Ok(name) if name.as_bytes() == text => send_all(
+        Ok(name) if name.as_bytes() == text => append_line(
             alloc,
             lines,
             "reference",
             LineContent::Nothing,
         ),
-        Ok(name) => send_all(
+        Ok(name) => append_line(
             alloc,
             lines,
             "another name",
             LineContent::Bytes(name.as_bytes()),
         ),
-        Err(fault) => send_all(
+        Err(fault) => append_line(
             alloc,
             lines,
             format!(in alloc; "{fault}")?.as_str(),
@@ -137,13 +137,13 @@ fn state_reference_name(alloc: Global, lines: &mut Vec<u8>, text: &[u8]) -> Resu
 fn state_capability(alloc: Global, lines: &mut Vec<u8>, text: &[u8]) -> Result<(), AllocError> {
     match read_capability(text, &mut Steps::new()) {
         Ok(capability) => {
-            send_all(alloc, lines, "key", LineContent::Bytes(capability.key))?;
+            append_line(alloc, lines, "key", LineContent::Bytes(capability.key))?;
             match capability.value {
-                Some(value) => send_all(alloc, lines, "value", LineContent::Bytes(value)),
+                Some(value) => append_line(alloc, lines, "value", LineContent::Bytes(value)),
                 None => Ok(()),
             }
         }
-        Err(kind) => send_all(alloc, lines, kind.name(), LineContent::Nothing),
+        Err(kind) => append_line(alloc, lines, kind.name(), LineContent::Nothing),
     }
 }
 
@@ -190,27 +190,32 @@ fn state_argument(
 ) -> Result<(), AllocError> {
     let argument = match argument_of(command, &offer(format, features), text) {
         Ok(argument) => argument,
-        Err(kind) => return send_all(alloc, lines, kind.name(), LineContent::Nothing),
+        Err(kind) => return append_line(alloc, lines, kind.name(), LineContent::Nothing),
     };
     match argument {
         Argument::Flag(flag) => {
             append(lines, flag.word())?;
             append(lines, b"\n")
         }
-        Argument::RefPrefix(prefix) => send_all(alloc, lines, "prefix", LineContent::Bytes(prefix)),
+        Argument::RefPrefix(prefix) => append_line(
+            alloc,
+            lines,
+            "prefix",
+            LineContent::Bytes(prefix),
+        ),
         Argument::Want(id) => state_object(alloc, lines, "want", id),
-        Argument::Filter(spec) => send_all(alloc, lines, "filter", LineContent::Bytes(spec)),
+        Argument::Filter(spec) => append_line(alloc, lines, "filter", LineContent::Bytes(spec)),
         Argument::Have(id) => state_object(alloc, lines, "have", id),
         Argument::Shallow(id) => state_object(alloc, lines, "shallow", id),
         Argument::Deepen(depth) => state_number(alloc, lines, "deepen", depth),
         Argument::DeepenSince(time) => state_number(alloc, lines, "deepen-since", time),
-        Argument::DeepenNot(revision) => send_all(
+        Argument::DeepenNot(revision) => append_line(
             alloc,
             lines,
             "deepen-not",
             LineContent::Bytes(revision),
         ),
-        Argument::WantRef(name) => send_all(alloc, lines, "want-ref", LineContent::Bytes(name)),
+        Argument::WantRef(name) => append_line(alloc, lines, "want-ref", LineContent::Bytes(name)),
         Argument::ObjectId(id) => state_object(alloc, lines, "oid", id),
     }
 }
@@ -223,15 +228,15 @@ fn state_reference(
 ) -> Result<(), AllocError> {
     let reference = match read_reference(format, text, &mut Steps::new()) {
         Ok(reference) => reference,
-        Err(kind) => return send_all(alloc, lines, kind.name(), LineContent::Nothing),
+        Err(kind) => return append_line(alloc, lines, kind.name(), LineContent::Nothing),
     };
     match reference.id {
         Some(id) => state_object(alloc, lines, "object", id)?,
-        None => send_all(alloc, lines, "unborn", LineContent::Nothing)?,
+        None => append_line(alloc, lines, "unborn", LineContent::Nothing)?,
     }
-    send_all(alloc, lines, "name", LineContent::Bytes(reference.name))?;
+    append_line(alloc, lines, "name", LineContent::Bytes(reference.name))?;
     if let Some(target) = reference.target {
-        send_all(alloc, lines, "target", LineContent::Bytes(target))?;
+        append_line(alloc, lines, "target", LineContent::Bytes(target))?;
     }
     match reference.peeled {
         Some(peeled) => state_object(alloc, lines, "peeled", peeled),
@@ -250,19 +255,19 @@ fn state_repository(alloc: Global, lines: &mut Vec<u8>, text: &[u8]) -> Result<(
         Err(TextFault::OutOfMemory) => return Err(Trouble::OutOfMemory),
         Err(fault) => {
             let fault = format!(in alloc; "{fault}")?;
-            send_all(alloc, lines, fault.as_str(), LineContent::Nothing)?;
+            append_line(alloc, lines, fault.as_str(), LineContent::Nothing)?;
             return Ok(());
         }
     };
-    send_all(alloc, lines, repo.format().name(), LineContent::Nothing)?;
+    append_line(alloc, lines, repo.format().name(), LineContent::Nothing)?;
     if let Some(target) = repo.unborn_head() {
-        send_all(alloc, lines, "unborn", LineContent::Bytes(target))?;
+        append_line(alloc, lines, "unborn", LineContent::Bytes(target))?;
     }
     for entry in repo.refs() {
         state_object(alloc, lines, "object", entry.id())?;
-        send_all(alloc, lines, "name", LineContent::Bytes(entry.name()))?;
+        append_line(alloc, lines, "name", LineContent::Bytes(entry.name()))?;
         if let Some(target) = entry.target() {
-            send_all(alloc, lines, "target", LineContent::Bytes(target))?;
+            append_line(alloc, lines, "target", LineContent::Bytes(target))?;
         }
         if let Some(peeled) = entry.peeled() {
             state_object(alloc, lines, "peeled", peeled)?;
@@ -286,7 +291,7 @@ fn state_script(
         Err(TextFault::OutOfMemory) => return Err(Trouble::OutOfMemory),
         Err(fault) => {
             let fault = format!(in alloc; "{fault}")?;
-            send_all(alloc, lines, fault.as_str(), LineContent::Nothing)?;
+            append_line(alloc, lines, fault.as_str(), LineContent::Nothing)?;
             return Ok(());
         }
     };
@@ -308,7 +313,7 @@ fn differs(alloc: Global, text: &[u8], announced: &[u8]) -> Result<Trouble, Allo
 
 impl Table {
     // The lines that report on a text.
-    fn announced(self, alloc: Global, text: &[u8]) -> Result<Vec<u8>, Trouble> {
+    fn lines_for(self, alloc: Global, text: &[u8]) -> Result<Vec<u8>, Trouble> {
         let mut lines = Vec::new(alloc);
         match self {
             Table::Payloads => state_payload(alloc, &mut lines, text)?,
@@ -330,7 +335,7 @@ impl Table {
             Table::Lists(format) => {
                 let text = str::from_utf8(text).map_err(|_| Trouble::BadCase("no text"))?;
                 let made = made(alloc, format, text)?;
-                send_all(alloc, &mut lines, made.as_str(), LineContent::Nothing)?;
+                append_line(alloc, &mut lines, made.as_str(), LineContent::Nothing)?;
             }
         }
         Ok(lines)
@@ -342,7 +347,7 @@ impl Table {
         for step in script.steps.as_slice() {
             let text = script.between(last, *step);
             let lines = script.given.as_slice().get(last.given..step.given);
-            let announced = self.announced(alloc, text)?;
+            let announced = self.lines_for(alloc, text)?;
             if Some(announced.as_slice()) != lines {
                 return Err(differs(alloc, text, announced.as_slice())?);
             }
