@@ -34,7 +34,7 @@ pub(crate) fn check_command<'a>(alloc: Global) -> Result<Command<'a>, AllocError
                 .help("File of what the server sent, its advertisement first"),
         )?
         .arg(flag_argument(alloc, "explain").help(
-            "Shows the packets up to the one that is refused, on standard error, also where that is no terminal",
+            "Shows the packets up to the one that is refused, on standard error, even if that is no terminal",
         ))?;
     with_columns(alloc, command)?
         .arg(format_argument(alloc))?

@@ -57,9 +57,9 @@ const BAD_COMMAND_LINE: u8 = 2;
 
 /// The text below the list of commands: the exit statuses, and the one error line whose word needs an explanation.
 const STATUSES: &str =
-    "Status: 0 where all went well; 1 with one line on standard error where a stream or a file is at fault; 2 where the command line is.
-A fault is reported by name and offset, and on a terminal a second line says more.
-`File` alone is a file that cannot be opened or made, or a text, pack or script that cannot be read.";
+    "Status: 0 if all went well; 1, with one line on standard error, if a stream or a file is at fault; 2 if the command line is.
+An error is reported by name and offset, and on a terminal a second line explains it.
+`File` alone: a file cannot be opened or made, or a text, pack or script cannot be read.";
 
 /// The object formats, as the command line names them.
 static FORMATS: [&str; 2] = ["sha1", "sha256"];
@@ -125,7 +125,7 @@ fn fetch_command<'a>(alloc: Global) -> Result<Command<'a>, AllocError> {
                 .help("File to write the transcript to [default: standard error]"),
         )?
         .arg(flag_argument(alloc, "progress").help(
-            "Shows the server's progress on standard error even where that is no terminal",
+            "Shows the server's progress on standard error, even if that is no terminal",
         ))?
         .arg(format_argument(alloc))?
         .arg(stateless_argument(

@@ -73,7 +73,7 @@ pub(crate) fn width_argument<'a>(alloc: Global) -> Arg<'a> {
         .long("width")
         .value_name("N")
         .value_parser(value_parser!(u32).range(NARROWEST..=WIDEST))
-        .help("How many columns a line of --pretty has at most [usual: 80]")
+        .help("How many columns a line of --pretty has at most [default: 80]")
 }
 
 /// Shows the packets of standard input.
