@@ -6,7 +6,7 @@ use Rattle.git_names.specs.RefName.{IsRefName}
 use Rattle.git_names.specs.declared.object_format.Format.{Format}
 use Rattle.git_server.specs.Repository.{Entry}
 use Rattle.git_host.specs.HostAnswers.{part_of}
-use Rattle.git_host.specs.ReferenceTexts.{RefusesTexts, SpellsEntry, Texts}
+use Rattle.git_host.specs.ReferenceTexts.{RefusesTexts, SpellsEntry, Texts, texts_with}
 use Rattle.git_host.specs.declared.report.ReferenceFault.{ReferenceFault}
 use Rattle.git_host.specs.declared.report.ReferenceFault.TheVariants.{BadObjectName, BadRefName, OutOfMemory}
 use Rattle.gitwire.specs.HostAnswers.{IsEntryOf, IsEntryRead, unread_by}
@@ -23,7 +23,7 @@ given_holds P (byte ∷ bytes) holds some = holds (byte ∷ bytes) refl
 
 -- what C passes for a reference
 abbrev pub passed_texts : (digits name target peeled : List ℕ) → Texts
-passed_texts digits name target peeled = record { digits = digits; name = name; target = given target; peeled = given peeled }
+passed_texts digits name target peeled = texts_with name digits (given target) (given peeled)
 
 pub passed_read : (format : Format) (digits name target peeled : List ℕ) (entry : Entry)
     → SpellsEntry format (passed_texts digits name target peeled) entry → IsEntryOf format digits name target peeled entry

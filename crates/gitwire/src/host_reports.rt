@@ -400,11 +400,13 @@ fn reference(
     if buffer.len() < LONGEST_PACKET {
         return GitwireAnswer::of(What::BufferTooSmall);
     }
+    let target = given(target);
+    let peeled = given(peeled);
     let texts = ReferenceTexts {
         digits: id,
         name,
-        target: given(target),
-        peeled: given(peeled),
+        target,
+        peeled,
     };
     match server.report_reference(texts) {
         Ok(reported) => show(server, reported, 0, 0, buffer),
