@@ -38,13 +38,13 @@ mod names;
 #[cfg(test)]
 mod packs;
 #[cfg(test)]
-mod plain_references;
 #[cfg(test)]
 mod playing_memory;
 #[cfg(test)]
 mod readiness;
 #[cfg(test)]
 mod recorded;
+mod reported_references;
 #[cfg(test)]
 mod repository_memory;
 #[cfg(test)]

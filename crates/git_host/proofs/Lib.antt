@@ -6,7 +6,7 @@ pub mod NameOrder
 pub mod NamesFrom
 pub mod WrittenIds
 pub mod ReferencesMoves
-pub mod PlainLines
+pub mod EntryLines
 pub mod JudgedNames
 pub mod SizesMoves
 pub mod HostAnswerMoves
@@ -19,7 +19,7 @@ pub mod HostCredits
 pub mod HostMoves
 pub mod HostAnswering
 pub mod HostFaults
-pub mod PlainMoves
+pub mod ReferenceReports
 pub mod FeedMoves
 pub mod HostMemoryMoves
 pub mod HostCallMoves

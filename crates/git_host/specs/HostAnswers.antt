@@ -1,6 +1,6 @@
 -- How far the answer to the request at hand has come, by what was reported and what was sent; and what a report does.
 use Rattle.std.specs.Prelude.{◌≡◌, ◌≢◌, ℕ, ◌≤◌, Bool, true, false, ◌||◌, List, [], ◌∷◌, ◌++◌, take, Option, Some, None, Result, Ok, Err}
-use Rattle.git_names.specs.ObjectName.{ObjectName, hex_of}
+use Rattle.git_names.specs.ObjectName.{ObjectName}
 use Rattle.git_names.specs.RefName.{IsRefName}
 use Rattle.git_names.specs.declared.object_format.Format.{Format}
 use Rattle.git_names.specs.NameBytes.{name_bytes}
@@ -12,7 +12,8 @@ use Rattle.git_msg.specs.Machine.HeldRequest.{asked_of as request_asked, holding
 use Rattle.git_msg.specs.Asked.{Asked, FetchAsked, LsRefsAsked, ObjectInfoAsked, fetch, ls_refs, object_info}
 use Rattle.git_server.specs.Packs.{Manner, whole, broken}
 use Rattle.git_server.specs.Objects.{object_of}
-use Rattle.git_server.specs.Repository.{IsUnshallowOf}
+use Rattle.git_server.specs.Answers.{reference_packet}
+use Rattle.git_server.specs.Repository.{Entry, IsNamed, IsOfFormat, IsUnshallowOf}
 use Rattle.git_host.specs.Admissions.{AdmissionFacts, IsAdmitted, IsOfOtherFormat, IsSame, RepresentsAdmission, asked_of, format_of, is_want, is_want_ref}
 use Rattle.git_host.specs.Admissions.{step_of}
 use Rattle.git_host.specs.Admissions.{with_found, with_want}
@@ -22,7 +23,8 @@ use Rattle.git_host.specs.FetchPlaces.{with_boundary_end, with_line}
 use Rattle.git_host.specs.FetchPlaces.{with_pack, with_progress, with_ready}
 use Rattle.git_host.specs.FetchPlaces.{WantsNoProgress, asked_of as fetch_of, format_of as fetch_format, step_of as fetch_step}
 use Rattle.git_host.specs.ReferencesPlaces.{HasBegun, IsUnsoundAfter, ReferencesFacts, RepresentsReferences, is_whole, with_ref, with_unborn}
-use Rattle.git_host.specs.ReferencesPlaces.{RefusesName, format_of as references_format, plain_entry, plain_line, with_references_end}
+use Rattle.git_host.specs.ReferencesPlaces.{format_of as references_format, peel_of, symrefs_of, with_references_end}
+use Rattle.git_host.specs.ReferenceTexts.{RefusesName}
 use Rattle.git_host.specs.SizesPlaces.{IsAsking, RepresentsSizes, sizes_asked}
 use Rattle.git_host.specs.HostSessions.{Facts, IsAnswerBy, IsBeforePack, IsFrontBy, IsLacking, nothing_for, of_fetch, of_references, of_sizes}
 use Rattle.git_host.specs.declared.admission.Admission.{Admission as AdmissionMachine}
@@ -395,8 +397,17 @@ module _ {A : Type 0} where
   ReportsBy report old Hidden bytes new = GoesOn (with_hidden report) old new × IsUnwanted report old
   ReportsBy report old reported bytes new = LeavesAnswer reported old new × IsReason report old reported
 
-  -- what the report of a reference does that points to no other and is no annotated tag, but for its packet, which is still to be written
-  abbrev pub TakesPlain : Format → List ℕ → HostAnswer A → Result HostReported ReferenceFault → HostAnswer A → Type 0
-  TakesPlain format name old (Ok reported) new = IsRefName name × ((id : ObjectName) → id.format ≡ format
-      → ReportsBy (Reference (plain_entry id name)) old reported (spelling_of (plain_line (hex_of id) name)) new)
-  TakesPlain format name old (Err fault) new = RefusesName fault name × (new ≡ old)
+  -- whether references are reported for a request that asks for the names that they point to, and for the objects that annotated tags peel to
+  abbrev pub asks_symrefs : HostAnswer A → Bool
+  asks_symrefs (References answer) = symrefs_of answer
+  asks_symrefs answer = false
+
+  abbrev pub asks_peel : HostAnswer A → Bool
+  asks_peel (References answer) = peel_of answer
+  asks_peel answer = false
+
+  -- what the report of any reference with this name and with objects of the format does, but for its line, which is still to be written
+  abbrev pub TakesReference : Format → List ℕ → HostAnswer A → Result HostReported ReferenceFault → HostAnswer A → Type 0
+  TakesReference format name old (Ok reported) new = IsRefName name × ((entry : Entry) → entry.name ≡ name → IsNamed name entry.target → IsOfFormat format entry
+      → ReportsBy (Reference entry) old reported (spelling_of (reference_packet (asks_symrefs old) (asks_peel old) entry)) new)
+  TakesReference format name old (Err fault) new = RefusesName fault name × (new ≡ old)

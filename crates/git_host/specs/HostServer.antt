@@ -1,7 +1,5 @@
 -- What a host's server represents: the bytes used, whether the input has ended, what was reported for each request, and the bytes given.
 use Rattle.std.specs.Prelude.{◌≡◌, ◌⊎◌, ℕ, ◌+◌, ◌<◌, ◌≤◌, Bool, true, false, List, [], ◌∷◌, ◌++◌, length, Option, Some, None, IsSome, Result, Ok, Err}
-use Rattle.git_names.specs.ObjectName.{IsNoObjectName, IsObjectName, ObjectName}
-use Rattle.git_names.specs.RefName.{IsRefName}
 use Rattle.git_names.specs.declared.object_format.Format.{Format}
 use Rattle.git_pkt.specs.Packets.{Pkt, spelling_of}
 use Rattle.git_pkt.specs.declared.fault.Fault.{Fault}
@@ -16,12 +14,13 @@ use Rattle.git_msg.specs.Memory.{FaultNeedsRefusal}
 use Rattle.git_msg.specs.Machine.RequestStreams.{AreAsked, HasRead, hold_of, is_within_packet, limit_of, offer_of, wants_input}
 use Rattle.git_msg.specs.Machine.RequestStreams.{credit_of as stream_credit}
 use Rattle.git_server.specs.Answers.{error_packet}
+use Rattle.git_server.specs.Repository.{Entry}
 use Rattle.git_server.specs.declared.outcome.Outcome.{Outcome}
 use Rattle.git_server.specs.declared.outcome.Outcome.TheVariants.{Refused}
 use Rattle.git_host.specs.HostSessions.{AllAnswered, AtLast, Facts, HostSetting, IsHosted, StopsBy, nothing_for, refusal_packet, tail_of}
 use Rattle.git_host.specs.HostAnswers.{EndsAs, IsAnswering, IsBegun, IsNeeded, IsWithinLimit, LeavesAnswer, Terms, IsReason, IsTaken, IsUnwanted}
 use Rattle.git_host.specs.HostAnswers.{is_broken, with_reported}
-use Rattle.git_host.specs.ReferencesPlaces.{RefusesName, plain_entry}
+use Rattle.git_host.specs.ReferenceTexts.{RefusesTexts, SpellsEntry, Texts}
 use Rattle.git_host.specs.declared.host_server.Phase.{Phase}
 use Rattle.git_host.specs.declared.host_server.Phase.TheVariants.{Advertising, Reading, Asked as Whole, Answering, Refusing, Ended}
 use Rattle.git_host.specs.declared.host_server.HostServer.{HostServer}
@@ -33,7 +32,6 @@ use Rattle.git_host.specs.declared.report.Need.{Need}
 use Rattle.git_host.specs.declared.report.Report.{Report}
 use Rattle.git_host.specs.declared.report.Report.TheVariants.{Failed, Reference}
 use Rattle.git_host.specs.declared.report.ReferenceFault.{ReferenceFault}
-use Rattle.git_host.specs.declared.report.ReferenceFault.TheVariants.{BadObjectName}
 
 -- the setting of a session
 abbrev pub setting_of : Offer → ℕ → Bool → HostSetting
@@ -82,11 +80,6 @@ pub record IsUntouched (limit : ℕ) (request : Kept Asked) (q : Asked) (f : Fac
   pub bounded : IsWithinLimit limit request
   pub nothing : f ≡ nothing_for q
   pub none : front ≡ []
-
--- why the digits of an object and a name are no reference: the digits are looked at first
-abbrev pub RefusesTexts : Format → List ℕ → List ℕ → ReferenceFault → Type 0
-RefusesTexts format digits name BadObjectName = IsNoObjectName format digits
-RefusesTexts format digits name fault = (id : ObjectName) × IsObjectName format digits id × RefusesName fault name
 
 module _ {A : Type 0} where
   -- the stream has read these bytes, which ask for this, and reads on
@@ -357,9 +350,8 @@ module _ {A : Type 0} where
   RefusesHost text old false new = Stays old new × ((s : HostSetting) (used : List ℕ) (over : Bool) (reported : List Facts) (given : List ℕ)
       → Hosts s used over reported given old → length text ≤ 65511 → is_asked old.phase ≡ false)
 
-  -- what the report of a reference by its texts does: a reference with this object and this name, which points to no other and is no annotated
-  -- tag, is reported; or the texts are none, and nothing changes
-  abbrev pub ReportsTexts : List ℕ → List ℕ → HostServer A → Result HostReported ReferenceFault → HostServer A → Type 0
-  ReportsTexts digits name old (Ok reported) new = (id : ObjectName) × IsObjectName old.offer.format digits id × IsRefName name
-      × ReportsHost (Reference (plain_entry id name)) old reported new
-  ReportsTexts digits name old (Err fault) new = RefusesTexts old.offer.format digits name fault × (new ≡ old)
+  -- what the report of a reference by its texts does: the reference that they are is reported; or they are none, and nothing changes
+  abbrev pub ReportsTexts : Texts → HostServer A → Result HostReported ReferenceFault → HostServer A → Type 0
+  ReportsTexts texts old (Ok reported) new =
+      (entry : Entry) × SpellsEntry old.offer.format texts entry × ReportsHost (Reference entry) old reported new
+  ReportsTexts texts old (Err fault) new = RefusesTexts old.offer.format texts fault × (new ≡ old)

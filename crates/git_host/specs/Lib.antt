@@ -5,6 +5,7 @@ pub mod FetchPlaces
 pub mod LastNames
 pub mod NextNames
 pub mod WrittenDigits
+pub mod ReferenceTexts
 pub mod ReferencesPlaces
 pub mod SizesPlaces
 pub mod RepositoryFacts

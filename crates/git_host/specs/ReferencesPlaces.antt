@@ -3,17 +3,16 @@ use Rattle.std.specs.Prelude.{◌≡◌, ◌≢◌, ℕ, ◌≤◌, Bool, true, 
 use Rattle.std.specs.Option.{ForSome}
 use Rattle.std.specs.Str.{bytes_eq}
 use Rattle.git_names.specs.declared.object_format.Format.{Format}
-use Rattle.git_names.specs.ObjectName.{ObjectName, hex_of}
 use Rattle.git_names.specs.RefName.{IsRefName}
 use Rattle.git_pkt.specs.Packets.{Pkt, spelling_of}
 use Rattle.git_msg.specs.Asked.{LsRefsAsked}
 use Rattle.git_msg.specs.Kept.{Kept}
 use Rattle.git_msg.specs.Prefixes.{ShowAlike}
-use Rattle.git_msg.specs.WrittenRequest.{text_line}
 use Rattle.git_server.specs.Answers.{reference_packet, reference_packets, shown_refs, unborn_packets}
 use Rattle.git_server.specs.Repository.{Entry, IsNamed, IsOfFormat, IsRising, IsUnbornHead}
 use Rattle.git_host.specs.FetchPlaces.{Holds}
 use Rattle.git_host.specs.LastNames.{last_name}
+use Rattle.git_host.specs.ReferenceTexts.{RefusesName}
 pub use Rattle.git_host.specs.NextNames.{comes_after}
 use Rattle.git_host.specs.declared.references_answer.ReferencesPlace.{ReferencesPlace}
 use Rattle.git_host.specs.declared.references_answer.ReferencesPlace.TheVariants.{First, Entries, AfterUnborn, Whole}
@@ -21,7 +20,6 @@ use Rattle.git_host.specs.declared.references_answer.Reported.{Reported}
 use Rattle.git_host.specs.declared.references_answer.Reported.TheVariants.{Packet, Hidden, NotAsked}
 use Rattle.git_host.specs.declared.references_answer.ReferencesAnswer.{ReferencesAnswer}
 use Rattle.git_host.specs.declared.report.ReferenceFault.{ReferenceFault}
-use Rattle.git_host.specs.declared.report.ReferenceFault.TheVariants.{BadObjectName, BadRefName, OutOfMemory}
 
 -- what a store reported for one request for references: what an unborn `HEAD` points to, its references, and whether those are all of them
 pub record ReferencesFacts : Type 0 where
@@ -174,25 +172,17 @@ module _ {A : Type 0} where
   Ends old true bytes new = IsToTheSame old new × ReportsOn with_references_end old bytes new × is_whole new
   Ends old false bytes new = (new ≡ old) × is_whole old
 
--- ---- a reference that points to no other and is no annotated tag
-
--- the reference, by its object and its name
-abbrev pub plain_entry : ObjectName → List ℕ → Entry
-plain_entry id name = record { name = name; id = id; target = None; peeled = None }
-
--- its line, whatever the request asks for
-abbrev pub plain_line : List ℕ → List ℕ → Pkt
-plain_line digits name = text_line (digits ++ 32 ∷ name)
-
--- why it is no reference
-abbrev pub RefusesName : ReferenceFault → List ℕ → Type 0
-RefusesName BadRefName name = ¬ IsRefName name
-RefusesName OutOfMemory name = IsRefName name
-RefusesName BadObjectName name = ⊥
-
+-- ---- a reference whose name is known, and whose line is still to be written
 module _ {A : Type 0} where
-  -- what the report of such a reference does, but for its packet, which is still to be written
-  abbrev pub TakesPlain : Format → List ℕ → ReferencesAnswer A → Result Reported ReferenceFault → ReferencesAnswer A → Type 0
-  TakesPlain format name old (Ok reported) new = IsRefName name × ((id : ObjectName) → id.format ≡ format
-      → Reports (plain_entry id name) old reported (spelling_of (plain_line (hex_of id) name)) new)
-  TakesPlain format name old (Err fault) new = RefusesName fault name × (new ≡ old)
+  -- whether the request asks for the names that references point to, and for the objects that annotated tags peel to
+  abbrev pub symrefs_of : ReferencesAnswer A → Bool
+  symrefs_of answer = answer.listing.asked.symrefs
+
+  abbrev pub peel_of : ReferencesAnswer A → Bool
+  peel_of answer = answer.listing.asked.peel
+
+  -- what the report of any reference with this name and with objects of the format does
+  abbrev pub TakesReference : Format → List ℕ → ReferencesAnswer A → Result Reported ReferenceFault → ReferencesAnswer A → Type 0
+  TakesReference format name old (Ok reported) new = IsRefName name × ((entry : Entry) → entry.name ≡ name → IsNamed name entry.target → IsOfFormat format entry
+      → Reports entry old reported (spelling_of (reference_packet (symrefs_of old) (peel_of old) entry)) new)
+  TakesReference format name old (Err fault) new = RefusesName fault name × (new ≡ old)

@@ -7,13 +7,14 @@ ghost use Rattle.git_host.specs.HostAnswers.{FailsFetch, asks_wanted, cut_where,
 
 use crate::admission::{Admission, AdmissionStep, WantRefReported};
 use crate::fetch_answer::{BoundaryEnd, BoundaryReported, FetchAnswer, ProgressReported, Step};
+use crate::reference_texts::check_name;
 use crate::references_answer::{ReferencesAnswer, Reported};
 use crate::report::{
     HostReported, LONGEST_PART, Need, ReferenceFault, Report, packet_where, taken_where,
 };
 use crate::sizes_answer::{SizesAnswer, SizesStep};
 use git_msg::{Boundary, Memory, Request};
-use git_names::{Format, Oid, RefName, Steps};
+use git_names::{Format, Oid, RefName};
 use git_pkt::{Hold, Kind};
 use git_server::RefEntry;
 use std::alloc::Allocator;
@@ -55,7 +56,7 @@ pub(crate) enum Failing {
 }
 
 impl<A: Allocator + Copy> HostAnswer<A> {
-    ghost use Rattle.git_host.specs.HostAnswers.{FailsBy, IsBegun, ReportsBy, StepsAnswer, WaitsStill, is_broken};
+    ghost use Rattle.git_host.specs.HostAnswers.{FailsBy, IsBegun, ReportsBy, StepsAnswer, WaitsStill, asks_peel, asks_symrefs, is_broken};
 
     /// The answer to this request, before anything was reported or sent for it.
     pub(crate) fn new(alloc: A, request: Request<A>, format: Format) -> HostAnswer<A>
@@ -105,6 +106,26 @@ impl<A: Allocator + Copy> HostAnswer<A> {
             HostAnswer::References(_) => AnswerStep::Need(Need::Reference),
             HostAnswer::Sizes(answer) => of_sizes(answer.next(hold)),
             HostAnswer::Whole => AnswerStep::Whole,
+        }
+    }
+
+    /// Whether references are reported, and the request asks for the names that they point to.
+    pub(crate) fn symrefs(&self) -> bool
+        ensures { result ≡ asks_symrefs self.now }
+    {
+        match self {
+            HostAnswer::References(answer) => answer.symrefs(),
+            _ => false,
+        }
+    }
+
+    /// Whether references are reported, and the request asks for the objects that annotated tags peel to.
+    pub(crate) fn peel(&self) -> bool
+        ensures { result ≡ asks_peel self.now }
+    {
+        match self {
+            HostAnswer::References(answer) => answer.peel(),
+            _ => false,
         }
     }
 
@@ -259,7 +280,7 @@ impl<A: Allocator + Copy> HostAnswer<A> {
 impl<A: Memory + Copy> HostAnswer<A> {
     ghost use Rattle.std.specs.Prelude.{Err, length};
     ghost use Rattle.git_msg.specs.Memory.{HasRefused};
-    ghost use Rattle.git_host.specs.HostAnswers.{ReportsBy, TakesPlain, is_failure};
+    ghost use Rattle.git_host.specs.HostAnswers.{ReportsBy, TakesReference, is_failure};
     ghost use Rattle.git_host.specs.HostMemory.{AnswerNeedsRefusal};
 
     /// Takes what the host reports, but for a failure, and gives its packet, if it has one.
@@ -286,21 +307,20 @@ impl<A: Memory + Copy> HostAnswer<A> {
         }
     }
 
-    /// Takes a reference with an object of this format and this name, which points to no other and is no annotated tag. If it has a packet,
-    /// that is its line, which is still to be written.
-    pub(crate) fn plain(
+    /// Takes a reference with this name and objects of this format. If it has a packet, that is its line, which is still to be written.
+    pub(crate) fn take_reference(
         &mut self,
         alloc: A,
         format: Format,
         name: &[u8],
     ) -> Result<HostReported, ReferenceFault>
-        ensures takes { TakesPlain format name.now self.old result self.new }
+        ensures takes { TakesReference format name.now self.old result self.new }
         ensures memory { result ≡ Err ReferenceFault.OutOfMemory → HasRefused A.refuses (length name.now) }
     {
         let HostAnswer::References(answer) = self else {
             return unasked(name);
         };
-        match answer.plain(alloc, format, name) {
+        match answer.take_reference(alloc, format, name) {
             Ok(reported) => Ok(reported_as(reported)),
             Err(fault) => Err(fault),
         }
@@ -428,9 +448,9 @@ pub(crate) fn unasked(name: &[u8]) -> Result<HostReported, ReferenceFault>
     ensures { MatchResult result (λ reported. (reported ≡ HostReported.NotAsked) × IsRefName name.now)
         (λ fault. (fault ≡ ReferenceFault.BadRefName) × ¬ IsRefName name.now) }
 {
-    match RefName::read(name, &mut Steps::new()) {
-        Ok(_) => Ok(HostReported::NotAsked),
-        Err(_) => Err(ReferenceFault::BadRefName),
+    match check_name(name) {
+        Ok(()) => Ok(HostReported::NotAsked),
+        Err(fault) => Err(fault),
     }
 }
 

@@ -15,7 +15,9 @@ ghost use Rattle.git_server.specs.Answers.{error_packet};
 ghost use Rattle.git_host.specs.HostServer.{IsAccepted, ended_by, first_phase, is_answering, is_asked, refused_by};
 
 use crate::host_answer::{AnswerStep, Failing, HostAnswer, unasked};
-use crate::references_answer::put_reported;
+use crate::reference_texts::{
+    ReferenceTexts, check_attributes, check_name, put_reported, where_asked,
+};
 use crate::report::{HostReported, HostStep, ReferenceFault, Report};
 use crate::request_at_hand::{RequestAtHand, request_answered};
 use crate::written_digits::written_digits;
@@ -379,37 +381,53 @@ impl<A: Memory + Copy> HostServer<A> {
     ghost use Rattle.std.specs.Prelude.{Err, Ok};
     ghost use Rattle.git_msg.specs.Memory.{HasRefused};
     ghost use Rattle.git_host.specs.HostServer.{KeepsFault, ReportsTexts, credit_of};
+    ghost use Rattle.git_host.specs.ReferenceTexts.{texts_of};
 
-    /// Takes the report of a reference by the digits of its object, of either case, and its name. It points to no other reference and is no
-    /// annotated tag. Both texts are checked: where one is refused, or memory runs out, nothing changed. Beside that it is as [`report`] of that
-    /// reference, and much faster.
+    /// Takes the report of a reference by its texts. They are checked from left to right: where one is refused, or memory runs out, nothing
+    /// changed. Beside that it is as [`report`] of that reference, and faster.
     ///
     /// [`report`]: HostServer::report
-    pub fn plain_reference(
+    pub fn report_reference(
         &mut self,
-        digits: &[u8],
-        name: &[u8],
+        texts: ReferenceTexts<'_>,
     ) -> Result<HostReported, ReferenceFault>
-        ensures reports { ReportsTexts digits.now name.now self.old result self.new }
+        ensures reports { ReportsTexts (texts_of texts.entry) self.old result self.new }
         ensures credit { credit_of self.new ≤ credit_of self.old }
         ensures fault { KeepsFault self.old self.new }
         ensures never { result ≢ Ok HostReported.OutOfMemory }
 
         // Memory refused a list that was to have a copy of the name.
-        ensures memory { result ≡ Err ReferenceFault.OutOfMemory → HasRefused A.refuses (length name.now) }
+        ensures memory { result ≡ Err ReferenceFault.OutOfMemory → HasRefused A.refuses (length texts.entry.name.now) }
     {
+        let ReferenceTexts {
+            digits,
+            name,
+            target,
+            peeled,
+        } = texts;
         let mut space = [0; 64];
         let Some(digits) = written_digits(self.offer.format, digits, &mut space) else {
             return Err(ReferenceFault::BadObjectName);
         };
+        let mut peeled_space = [0; 64];
+        let peeled = match check_attributes(self.offer.format, target, peeled, &mut peeled_space) {
+            Ok(peeled) => peeled,
+            Err(fault) => {
+                // The name stands before both.
+                check_name(name)?;
+                return Err(fault);
+            }
+        };
         let Phase::Answering(answer) = &mut self.phase else {
             return unasked(name);
         };
-        let reported = answer.plain(self.alloc, self.offer.format, name)?;
+        let target = where_asked(answer.symrefs(), target);
+        let peeled = where_asked(answer.peel(), peeled);
+        let reported = answer.take_reference(self.alloc, self.offer.format, name)?;
         let Some(hold) = self.stream.lend() else {
             return Ok(HostReported::NotAsked);
         };
-        put_reported(hold, reported, digits, name);
+        put_reported(hold, reported, digits, name, target, peeled);
         let _ = hold.len();
         Ok(reported)
     }

@@ -17,6 +17,7 @@ ghost use Rattle.git_pkt.specs.Machine.Credit.{MakesAll, Pays};
 ghost use Rattle.git_host.specs.HostSessions.{HostSetting};
 ghost use Rattle.git_host.specs.HostServer.{AcceptsHost, ClosesHost, FeedsHost, Hosts, KeepsFault, KeepsHostToMemory, RefusesHost, ReportsHost, StepsHost};
 ghost use Rattle.git_host.specs.HostServer.{ReportsTexts};
+ghost use Rattle.git_host.specs.ReferenceTexts.{Texts};
 ghost use Rattle.git_host.specs.HostServer.{begun_in, bytes_of, credit_of, given_with};
 ghost use Rattle.git_host.specs.HostMemory.{ReportNeedsRefusal, bytes_held, bytes_held_by_fields};
 ghost use Rattle.git_host.specs.HostCalls.{HostCall, HostHeadline, Makes, accept, close, feed, given_at, next, nothing, refuse, report};
@@ -86,11 +87,11 @@ pub fn methods_make_calls<A: Memory + Copy>()
     ensures reported { (old new : HostServer A) (fact : Report) (what : HostReported) (steps : ℕ) → ReportsHost fact old what new
         → credit_of new ≤ credit_of old → KeepsFault old new → ReportNeedsRefusal A.refuses old what
         → Makes A.refuses (report fact what (given_with what new.stream)) steps old steps new }
-    ensures texts { (old new : HostServer A) (digits name : List ℕ) (what : HostReported) (steps : ℕ) → ReportsTexts digits name old (Ok what) new
+    ensures texts { (old new : HostServer A) (texts : Texts) (what : HostReported) (steps : ℕ) → ReportsTexts texts old (Ok what) new
         → what ≢ HostReported.OutOfMemory → credit_of new ≤ credit_of old → KeepsFault old new
         → (fact : Report) × Makes A.refuses (report fact what (given_with what new.stream)) steps old steps new }
-    ensures unread { (old new : HostServer A) (digits name : List ℕ) (fault : ReferenceFault) (steps : ℕ)
-        → ReportsTexts digits name old (Err fault) new → Makes A.refuses nothing steps old steps new }
+    ensures unread { (old new : HostServer A) (texts : Texts) (fault : ReferenceFault) (steps : ℕ) → ReportsTexts texts old (Err fault) new
+        → Makes A.refuses nothing steps old steps new }
     ensures accepted { (old new : HostServer A) (steps : ℕ) → AcceptsHost old true new → credit_of new ≤ credit_of old → KeepsFault old new
         → Makes A.refuses accept steps old steps new }
     ensures unaccepted { (old new : HostServer A) (steps : ℕ) → AcceptsHost old false new → Makes A.refuses nothing steps old steps new }

@@ -3,20 +3,19 @@
 
 ghost use Rattle.std.specs.Prelude.{◌≡◌, ◌≤◌, ℕ, ◌∷◌, ◌++◌, Err, List, length};
 ghost use Rattle.git_names.specs.RefName.{IsRefName};
-ghost use Rattle.git_pkt.specs.Packets.{spelling_of};
 ghost use Rattle.git_msg.specs.Memory.{HasRefused};
 ghost use Rattle.git_msg.specs.Prefixes.{IsOrdered, is_shown};
 ghost use Rattle.git_server.specs.Answers.{reference_packet, unborn_packet};
 ghost use Rattle.git_server.specs.Repository.{HasOneFormat};
-ghost use Rattle.git_host.specs.ReferencesPlaces.{after_entry, comes_after, plain_line};
+ghost use Rattle.git_host.specs.ReferencesPlaces.{after_entry, comes_after};
 ghost use Rattle.git_host.specs.FetchPlaces.{Holds};
 
 use crate::last_name::LastName;
 use crate::next_name::{NextName, judge_name};
-use crate::report::{HostReported, ReferenceFault};
+use crate::report::ReferenceFault;
 use git_msg::{Listing, LsRefs, Memory, is_word, put_reference};
 use git_names::Format;
-use git_pkt::{Hold, Packet, append, begin, put};
+use git_pkt::{Hold, Packet, put};
 use git_server::{RefEntry, asks_for_unborn, entry_line, unborn_line};
 use std::alloc::Allocator;
 
@@ -61,7 +60,7 @@ pub struct ReferencesAnswer<A: Allocator + Copy> {
 impl<A: Allocator + Copy> ReferencesAnswer<A> {
     ghost use Rattle.git_msg.specs.Asked.{ls_refs};
     ghost use Rattle.git_host.specs.HostLookups.{references_asked};
-    ghost use Rattle.git_host.specs.ReferencesPlaces.{Ends, KeepsAs, Reports, ReportsUnborn, Starts, format_of, last_reported, refuses_head};
+    ghost use Rattle.git_host.specs.ReferencesPlaces.{Ends, KeepsAs, Reports, ReportsUnborn, Starts, format_of, last_reported, peel_of, refuses_head, symrefs_of};
 
     /// The answer to this request, before anything was reported for it.
     pub fn new(request: LsRefs<A>, format: Format) -> ReferencesAnswer<A>
@@ -142,6 +141,20 @@ impl<A: Allocator + Copy> ReferencesAnswer<A> {
         true
     }
 
+    /// Whether the request asks for the names that references point to.
+    pub(crate) fn symrefs(&self) -> bool
+        ensures { result ≡ symrefs_of self.now }
+    {
+        self.listing.symrefs()
+    }
+
+    /// Whether it asks for the objects that annotated tags peel to.
+    pub(crate) fn peel(&self) -> bool
+        ensures { result ≡ peel_of self.now }
+    {
+        self.listing.peel()
+    }
+
     // Whether the reference is `HEAD`, where that is unborn.
     fn refuses_head(&self, entry: &RefEntry) -> bool
         ensures { result ≡ refuses_head self.now entry.now.name }
@@ -171,17 +184,17 @@ impl<A: Allocator + Copy> ReferencesAnswer<A> {
 }
 
 impl<A: Memory + Copy> ReferencesAnswer<A> {
-    ghost use Rattle.git_host.specs.ReferencesPlaces.{TakesPlain};
+    ghost use Rattle.git_host.specs.ReferencesPlaces.{TakesReference};
 
-    /// A reference with an object of this format and this name, which points to no other and is no annotated tag, and has to come after those
-    /// reported before it. If it has a packet, that is its line, which is still to be written.
-    pub(crate) fn plain(
+    /// A reference with this name and objects of this format, which has to come after those reported before it. If it has a packet, that is its
+    /// line, which is still to be written.
+    pub(crate) fn take_reference(
         &mut self,
         alloc: A,
         format: Format,
         name: &[u8],
     ) -> Result<Reported, ReferenceFault>
-        ensures takes { TakesPlain format name.now self.old result self.new }
+        ensures takes { TakesReference format name.now self.old result self.new }
         ensures memory { result ≡ Err ReferenceFault.OutOfMemory → HasRefused A.refuses (length name.now) }
     {
         let found = judge_name(self.last.name(), name);
@@ -253,27 +266,4 @@ fn put_entry<A: Allocator + Copy>(hold: &mut Hold, entry: &RefEntry, listing: &L
     ensures { Holds hold.new.items (reference_packet listing.now.asked.symrefs listing.now.asked.peel entry.now) }
 {
     put_reference(hold, entry_line(entry, listing));
-}
-
-/// Makes the hold the line of such a reference, by the digits of its object and its name, if it has a packet.
-pub(crate) fn put_reported(hold: &mut Hold, reported: HostReported, digits: &[u8], name: &[u8])
-    requires digits { length digits.now ≤ 64 }
-    requires name { length name.now ≤ 32000 }
-    ensures { reported ≡ HostReported.Packet → hold.new.items ≡ spelling_of (plain_line digits.now name.now) }
-{
-    if let HostReported::Packet = reported {
-        put_plain(hold, digits, name);
-    }
-}
-
-fn put_plain(hold: &mut Hold, digits: &[u8], name: &[u8])
-    requires digits { length digits.now ≤ 64 }
-    requires name { length name.now ≤ 32000 }
-    ensures { hold.new.items ≡ spelling_of (plain_line digits.now name.now) }
-{
-    begin(hold, digits.len() + name.len() + 2);
-    append(hold, digits);
-    append(hold, b" ");
-    append(hold, name);
-    append(hold, b"\n");
 }

@@ -12,6 +12,7 @@ use git_names::{Format, Oid, Steps};
 
 /// The digits of the object that the text names, in lower case; none if it is no object name of the format. They are the text itself, if it is
 /// in lower case, and else they are written to `space`.
+#[inline(always)]
 pub(crate) fn written_digits<'a>(
     format: Format,
     text: &'a [u8],

@@ -10,6 +10,6 @@ pub mod ListedEvents
 pub mod ListedPackets
 pub mod Making
 pub mod Reporting
-pub mod PlainReferences
+pub mod TextReferences
 pub mod ShownLengths
 pub mod ShownPlaces

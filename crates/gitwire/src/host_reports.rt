@@ -1,6 +1,7 @@
 //! What a host reports of its store to the server that C holds.
 
-ghost use Rattle.std.specs.Prelude.{◌≡◌, ◌≤◌, [], length};
+ghost use Rattle.std.specs.Prelude.{◌≡◌, ◌≤◌, length};
+ghost use Rattle.std.specs.Option.{option_copied};
 ghost use Rattle.git_host.specs.HostAnswers.{part_of};
 ghost use Rattle.git_host.specs.HostLookups.{format_of};
 ghost use Rattle.git_host.specs.HostServer.{bytes_of};
@@ -8,14 +9,15 @@ ghost use Rattle.git_host.specs.declared.report.Report.{Report as Reported};
 ghost use Rattle.gitwire.specs.Calls.{HasNone, On};
 ghost use Rattle.gitwire.specs.Handles.{host_in};
 ghost use Rattle.gitwire.specs.HostAnswers.{MeansBoundary, MeansReference, MeansUnborn, MeansWantRef, ReportsAnswers, ReportsInBuffer};
-ghost use Rattle.gitwire.specs.HostAnswers.{ReportsMeant, ReportsMeantInBuffer, bytes_in, filled_by, reporting, size_given, unread_by};
+ghost use Rattle.gitwire.specs.WrittenForC.{given};
+ghost use Rattle.gitwire.specs.HostAnswers.{ReportsMeantInBuffer, bytes_in, filled_by, reporting, size_given, unread_by};
 
 use crate::answer::{GitwireAnswer, What};
 use crate::handles::{GitwireHost, Holds};
 use crate::host::{hand_out, refused_as};
-use crate::host_texts::{Unread, read_entry};
+use crate::host_texts::Unread;
 use crate::line_writers::{boundary_of, read_given_id};
-use git_host::{HostReported, HostServer, LONGEST_PART, ReferenceFault, Report};
+use git_host::{HostReported, HostServer, LONGEST_PART, ReferenceFault, ReferenceTexts, Report};
 use git_names::{Oid, RefName, Steps};
 use git_pkt::{Kind, LONGEST_PACKET};
 use std::alloc::Global;
@@ -181,7 +183,7 @@ pub extern "C" fn gitwire_host_reference(
     let Some(mut taken) = host.take(alloc) else {
         return GitwireAnswer::of(What::NoHandle);
     };
-    let answer = reference(alloc, &mut taken.inner, id, name, target, peeled, buffer);
+    let answer = reference(&mut taken.inner, id, name, target, peeled, buffer);
     host.put(taken);
     answer
 }
@@ -383,8 +385,8 @@ fn unborn(server: &mut HostServer<Global>, target: &[u8], buffer: &mut [u8]) -> 
     }
 }
 
+// The texts of a reference are copied to nowhere but its line and the name that is kept.
 fn reference(
-    alloc: Global,
     server: &mut HostServer<Global>,
     id: &[u8],
     name: &[u8],
@@ -398,29 +400,28 @@ fn reference(
     if buffer.len() < LONGEST_PACKET {
         return GitwireAnswer::of(What::BufferTooSmall);
     }
-    if target.is_empty() && peeled.is_empty() {
-        return plain_reference(server, id, name, buffer);
-    }
-    match read_entry(alloc, server.format(), id, name, target, peeled) {
-        Ok(entry) => report_to(server, Report::Reference(entry), buffer),
-        Err(why) => why.answer(),
-    }
-}
-
-// A reference with neither a target nor a peeled object: its texts are copied to nowhere but its line and the name that is kept.
-fn plain_reference(
-    server: &mut HostServer<Global>,
-    id: &[u8],
-    name: &[u8],
-    buffer: &mut [u8],
-) -> GitwireAnswer
-    requires { 65520 ≤ length buffer.old }
-    ensures { ReportsMeant (MeansReference (format_of server.old) id.now name.now [] []) server.old buffer.old result buffer.new server.new }
-{
-    match server.plain_reference(id, name) {
+    let target = given(target);
+    let peeled = given(peeled);
+    let texts = ReferenceTexts {
+        digits: id,
+        name,
+        target,
+        peeled,
+    };
+    match server.report_reference(texts) {
         Ok(reported) => show(server, reported, 0, 0, buffer),
         Err(fault) => unread_by(fault).answer(),
     }
+}
+
+// A text without bytes is none.
+fn given(text: &[u8]) -> Option<&[u8]>
+    ensures { option_copied result ≡ given text.now }
+{
+    if text.is_empty() {
+        return None;
+    }
+    Some(text)
 }
 
 fn unread_by(fault: ReferenceFault) -> Unread

@@ -1,6 +1,5 @@
 use Rattle.std.proofs.Common.{arith, ◌≡◌, refl, ap, subst, sym}
 use Rattle.git_host.specs.HostServer.{Hosts, Stays, credit_of}
-use Rattle.git_host.specs.ReferencesPlaces.{plain_entry}
 use Rattle.git_host.specs.declared.host_server.HostServer.{HostServer}
 use Rattle.git_host.specs.declared.report.Report.TheVariants.{Reference}
 use Rattle.git_host.proofs.HostFaults.{same_phase}
@@ -21,10 +20,10 @@ returns g c = record {
   );
   stepped = λ old new step steps does credit fault. (does, refl, record { steps = refl; credit = credit }, fault);
   reported = λ old new fact what steps does credit fault memory. (does, refl, record { steps = refl; credit = credit }, fault, memory);
-  texts = λ old new digits name what steps does some credit fault.
-      let (id, named, is_name, reports) = does in
-      (Reference (plain_entry id name), (reports, refl, record { steps = refl; credit = credit }, fault, λ is. absurd (some is)));
-  unread = λ old new digits name fault steps does. (
+  texts = λ old new texts what steps does some credit fault.
+      let (entry, spells, reports) = does in
+      (Reference entry, (reports, refl, record { steps = refl; credit = credit }, fault, λ is. absurd (some is)));
+  unread = λ old new texts fault steps does. (
     stays_same old new does.1,
     record { steps = refl; credit = omega (arith, ap credit_of does.1) },
     same_phase old new (ap (λ (x : HostServer g.row.A.Denot). x.phase) does.1),
