@@ -115,9 +115,9 @@ held_more old now new chunk packets used count filled next one gathers within h 
       listed = h.listed ++ one ∷ [];
       feeds =
           λ held. feeds_one old now new chunk packets used count filled one held h gives (
-            lies_more gives.packet now new chunk held held used gives.offset gives.used gathers gives.feeds gives.within
-            (needs_none gives.packet gives.used held began)
-            (λ longer. absurd (omega (arith, longer, began)))
+          lies_more gives.packet now new chunk held held used gives.offset gives.used gathers gives.feeds gives.within
+          (needs_none gives.packet gives.used held began)
+          (λ longer. absurd (omega (arith, longer, began)))
           );
       counts = omega (arith, h.counts, length-append h.listed (one ∷ []));
       packets_are = placed old now new chunk packets used count filled next one within h sets;

@@ -43,7 +43,7 @@ pub record ListsHeld (old : PacketReader) (chunk : List ℕ) (packets : List Git
   pub last : PacketReader
   pub feeds : FeedsEach old chunk (payload_held new) 0 listed last end
   pub ends :
-    IsFull last end (length listed) (length packets) answer new
+      IsFull last end (length listed) (length packets) answer new
       ⊎ (IsKept last end listed answer new ⊎ GivesNone last chunk end (length listed) answer new)
   pub within : answer.used ≤ length chunk
   pub count_fits : length listed ≤ length packets

@@ -1,16 +1,15 @@
 //! Several packets of a chunk by one call of C that has no buffer: a payload that is cut stays in the reader, which lends it.
 
-ghost use Rattle.std.specs.Prelude.{◌≡◌, ◌≤◌, ◌<◌, MatchResult, length};
+ghost use Rattle.std.specs.Prelude.{◌≡◌, ◌<◌, length};
 ghost use Rattle.gitwire.specs.Calls.{On};
 ghost use Rattle.gitwire.specs.Handles.{packet_reader_in};
-ghost use Rattle.gitwire.specs.PacketsInPlace.{GivesListed, GivesNoneListed, ListsHeld, ListsInPlace, ListsNoneInPlace};
+ghost use Rattle.gitwire.specs.PacketsInPlace.{ListsHeld, ListsInPlace, ListsNoneInPlace};
 ghost use Rattle.gitwire.specs.PayloadsLent.{payload_lent};
 
 use crate::answer::{GitwireAnswer, What};
 use crate::gatherer::Gatherer;
 use crate::handles::{GitwirePacketReader, Holds};
-use git_names::Steps;
-use git_pkt::{Got, Packet};
+use crate::packet_list::next_packet;
 use std::alloc::Global;
 
 /// A payload that a reader lends.
@@ -95,35 +94,4 @@ fn fill_in_place(
         }
     }
     GitwireAnswer::of_packet(used, 0, count, What::More)
-}
-
-/// One call of `feed`, on the bytes of the chunk from this place on: the packet, or what is reported after so many packets if there is none.
-#[inline(always)]
-fn next_packet(
-    gatherer: &mut Gatherer,
-    chunk: &[u8],
-    from: usize,
-    count: usize,
-) -> Result<GitwireAnswer, GitwireAnswer>
-    requires within { from ≤ length chunk.now }
-    ensures { MatchResult result (λ packet. GivesListed gatherer.old.reader chunk.now from packet gatherer.new.reader)
-        (λ answer. GivesNoneListed gatherer.old.reader chunk.now from count answer gatherer.new.reader) }
-{
-    let fed = gatherer.reader.feed(&chunk[from..], &mut Steps::new());
-    let used = from + fed.used;
-    match fed.got {
-        Got::More => Err(GitwireAnswer::of_packet(used, 0, count, What::More)),
-        Got::Failed(fault) => Err(GitwireAnswer {
-            length: count,
-            ..GitwireAnswer::of_fault(used, fault)
-        }),
-        Got::Packet(packet, offset) => Ok(match packet {
-            Packet::Flush => GitwireAnswer::of_packet(used, offset, 0, What::Flush),
-            Packet::Delim => GitwireAnswer::of_packet(used, offset, 0, What::Delim),
-            Packet::RespEnd => GitwireAnswer::of_packet(used, offset, 0, What::ResponseEnd),
-            Packet::Payload(bytes) => {
-                GitwireAnswer::of_packet(used, offset, bytes.len(), What::Payload)
-            }
-        }),
-    }
 }

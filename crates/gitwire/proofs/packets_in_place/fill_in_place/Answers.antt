@@ -1,4 +1,4 @@
-use Rattle.std.proofs.Common.{arith, ◌≡◌, ◌∙◌, ◌<◌, length, length-set, refl, slice_set}
+use Rattle.std.proofs.Common.{arith, ◌∙◌, ◌<◌, length, length-set, refl, slice_set}
 use Rattle.gitwire.proofs.ListedInPlace.{end_listed_within, held_more, nothing_held, stopped_full_held, stopped_kept, stopped_none_held}
 use Rattle.gitwire.proofs.packets_in_place.fill_in_place.Goals as goal
 
