@@ -4,7 +4,7 @@
  * over the same reader in its own language.
  *
  * Both read 64 KiB at a time, and the reader gathers each packet in its hold, where bench_machines looks at it. A call of C gives
- * the packets of a chunk in an array, with their payloads where they came; one that is cut is copied into the caller's buffer.
+ * the packets of a chunk in an array, with their payloads where they came; one that is cut is looked at in the hold too.
  */
 #include <gitwire.h>
 
@@ -16,7 +16,7 @@
 #define CHUNK_BYTES 65536
 #define MOST_PACKETS 256
 
-static uint8_t bytes_read[CHUNK_BYTES], buffer[GITWIRE_PAYLOAD_SIZE];
+static uint8_t bytes_read[CHUNK_BYTES];
 static gitwire_answer listed[MOST_PACKETS];
 static uint64_t packets, bytes, checksum;
 
@@ -58,9 +58,10 @@ int main(void)
 		for (size_t used = 0; used < (size_t)count; used += answer.used) {
 			const uint8_t *chunk = bytes_read + used;
 
-			answer = gitwire_packet_reader_packets(reader, chunk, (size_t)count - used, listed, MOST_PACKETS, buffer, sizeof buffer);
+			answer = gitwire_packet_reader_packets_in_place(reader, chunk, (size_t)count - used, listed, MOST_PACKETS);
+			const uint8_t *held = gitwire_packet_reader_held(reader);
 			for (size_t i = 0; i < answer.length; i++)
-				count_packet(&listed[i], gitwire_payload(&listed[i], chunk, buffer));
+				count_packet(&listed[i], gitwire_payload(&listed[i], chunk, held));
 			if (answer.kind == GITWIRE_FAILED)
 				return tell_fault(answer);
 		}

@@ -1,7 +1,7 @@
 /*
  * The part of the library that is written in C, since Rattle exports nothing of the kind: memory, also for handles, the lock of a repository's,
  * texts that last, and where the parts of an event and a payload are. Nothing here is proved. It is linked with libgitwire.a, whose calls `_init`,
- * `_clear`, `_words` and `_text` below are not in the header.
+ * `_clear`, `_lend`, `_words` and `_text` below are not in the header.
  */
 
 /* The calls that the header defines as well are defined here for whoever calls them. */
@@ -286,6 +286,21 @@ void gitwire_repository_free(gitwire_repository *repository)
 	gitwire_repository_clear(&repository->handle);
 	pthread_mutex_destroy(&repository->lock);
 	drop_handle(repository);
+}
+
+/* What a reader lends. */
+struct lent {
+	const uint8_t *bytes;
+	size_t length;
+};
+
+void gitwire_packet_reader_lend(gitwire_packet_reader *reader, struct lent *payload);
+const uint8_t *gitwire_packet_reader_held(gitwire_packet_reader *reader)
+{
+	struct lent payload = { NULL, 0 };
+
+	gitwire_packet_reader_lend(reader, &payload);
+	return payload.bytes;
 }
 
 void gitwire_version_text(gitwire_text *text);

@@ -54,7 +54,7 @@ static int refuse(gitwire_answer answer)
 /* Lists all packets, and returns the exit status. */
 static int list(gitwire_packet_reader *reader, size_t most)
 {
-	static uint8_t bytes[MOST_BYTES], buffer[GITWIRE_PAYLOAD_SIZE];
+	static uint8_t bytes[MOST_BYTES];
 	static gitwire_answer packets[MOST_PACKETS];
 	gitwire_answer answer;
 	size_t length;
@@ -63,9 +63,10 @@ static int list(gitwire_packet_reader *reader, size_t most)
 		for (size_t used = 0; used < length; used += answer.used) {
 			const uint8_t *chunk = bytes + used;
 
-			answer = gitwire_packet_reader_packets(reader, chunk, length - used, packets, MOST_PACKETS, buffer, sizeof buffer);
+			answer = gitwire_packet_reader_packets_in_place(reader, chunk, length - used, packets, MOST_PACKETS);
+			const uint8_t *held = gitwire_packet_reader_held(reader);
 			for (size_t i = 0; i < answer.length; i++)
-				show(&packets[i], gitwire_payload(&packets[i], chunk, buffer));
+				show(&packets[i], gitwire_payload(&packets[i], chunk, held));
 			if (answer.kind == GITWIRE_FAILED)
 				return refuse(answer);
 		}

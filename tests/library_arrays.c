@@ -17,11 +17,12 @@ struct stream {
 	size_t length;
 };
 
-/* How a stream is cut, and how it is read: into an array of `places`, or by single calls if that is 0. */
+/* How a stream is cut, and how it is read: into an array of `places`, or by single calls if that is 0. A reader of packets may have no buffer. */
 struct way {
 	size_t first, next;
 	size_t places;
 	size_t buffer;
+	bool in_place;
 };
 
 /* All that a run gave. */
@@ -119,6 +120,26 @@ static void read_packets_singly(struct log *log, gitwire_packet_reader *reader, 
 	}
 }
 
+/* Fills the array, and sets `rest` to where the payload is that is not in the chunk. */
+static gitwire_answer fill(gitwire_packet_reader *reader, const struct way *way, const uint8_t *chunk, size_t length, gitwire_answer *packets,
+	const uint8_t **rest)
+{
+	gitwire_answer answer;
+
+	*rest = large_buffer;
+	if (!way->in_place)
+		return gitwire_packet_reader_packets(reader, chunk, length, packets, way->places, large_buffer, GITWIRE_PAYLOAD_SIZE);
+	answer = gitwire_packet_reader_packets_in_place(reader, chunk, length, packets, way->places);
+	*rest = gitwire_packet_reader_held(reader);
+	return answer;
+}
+
+/* Whether the array has one packet, whose payload stayed in the reader. */
+static bool stayed(const gitwire_answer *packets, size_t count)
+{
+	return count == 1 && packets->used < packets->length;
+}
+
 static void read_packets(struct log *log, gitwire_packet_reader *reader, const struct stream *stream, const struct way *way, size_t at, size_t end)
 {
 	static gitwire_answer packets[MOST_ELEMENTS];
@@ -127,11 +148,13 @@ static void read_packets(struct log *log, gitwire_packet_reader *reader, const s
 		const uint8_t *chunk = stream->bytes + at;
 
 		memset(packets, 0, sizeof packets);
-		gitwire_answer answer = gitwire_packet_reader_packets(reader, chunk, end - at, packets, way->places, large_buffer, GITWIRE_PAYLOAD_SIZE);
+		const uint8_t *rest;
+		gitwire_answer answer = fill(reader, way, chunk, end - at, packets, &rest);
 		EXPECT(answer.length <= way->places && left_alone(packets, sizeof *packets, answer.length));
-		EXPECT(answer.kind == GITWIRE_FAILED || answer.used == end - at || (answer.kind == GITWIRE_MORE && answer.length == way->places));
+		EXPECT(answer.kind == GITWIRE_FAILED || answer.used == end - at
+			|| (answer.kind == GITWIRE_MORE && (answer.length == way->places || (way->in_place && stayed(packets, answer.length)))));
 		for (size_t i = 0; i < answer.length; i++)
-			note_packet(log, packets[i], at + packets[i].used, gitwire_payload(&packets[i], chunk, large_buffer));
+			note_packet(log, packets[i], at + packets[i].used, gitwire_payload(&packets[i], chunk, rest));
 		at += answer.used;
 		note_end(log, answer.kind, answer.fault, answer.offset, at);
 		if (answer.kind == GITWIRE_FAILED)
@@ -279,8 +302,9 @@ static void compare(size_t first, size_t next)
 
 		way.places = 0;
 		run_reader(&single, stream, &way);
-		for (size_t i = 0; i < sizeof places / sizeof *places; i++) {
-			way.places = places[i];
+		for (size_t i = 0; i < 2 * (sizeof places / sizeof *places); i++) {
+			way.places = places[i / 2];
+			way.in_place = i % 2 == 1;
 			run_reader(&filled, stream, &way);
 			EXPECT(same_logs());
 		}
@@ -306,8 +330,17 @@ static void try_answers(void)
 	EXPECT(tells(gitwire_packet_reader_packets(reader, line, length, packets, 2, BUFFER), GITWIRE_MORE, length, 0, 1));
 	EXPECT(tells(packets[0], GITWIRE_PAYLOAD, length, 0, 10) && memcmp(gitwire_payload(&packets[0], line, buffer), "version 2\n", 10) == 0);
 	EXPECT(tells(gitwire_packet_reader_packets(reader, NULL, 0, packets, 2, BUFFER), GITWIRE_MORE, 0, 0, 0));
-	EXPECT(tells_fault(gitwire_packet_reader_packets(reader, BYTES("00x"), packets, 2, BUFFER), GITWIRE_FAULT_BAD_DIGIT, 3, length + 2));
-	EXPECT(tells_fault(gitwire_packet_reader_packets(reader, line, length, packets, 2, BUFFER), GITWIRE_FAULT_BAD_DIGIT, 0, length + 2));
+	EXPECT(tells(gitwire_packet_reader_packets_in_place(reader, line, length, packets, 0), GITWIRE_BUFFER_TOO_SMALL, 0, 0, 0));
+	EXPECT(tells(gitwire_packet_reader_packets_in_place(reader, line, 6, packets, 2), GITWIRE_MORE, 6, 0, 0));
+	/* The first payload stays in the reader, so that the second is for the next call. */
+	EXPECT(tells(gitwire_packet_reader_packets_in_place(reader, BYTES("rsion 2\n0005a"), packets, 2), GITWIRE_MORE, 8, 0, 1));
+	EXPECT(tells(packets[0], GITWIRE_PAYLOAD, 8, length, 10) && memcmp(gitwire_packet_reader_held(reader), "version 2\n", 10) == 0);
+	EXPECT(tells(gitwire_packet_reader_packets_in_place(reader, BYTES("0005a0000"), packets, 2), GITWIRE_MORE, 9, 0, 2));
+	EXPECT(tells(packets[0], GITWIRE_PAYLOAD, 5, 2 * length, 1) && *gitwire_payload(&packets[0], (const uint8_t *)"0005a0000", NULL) == 'a');
+	EXPECT(tells(packets[1], GITWIRE_FLUSH, 9, 2 * length + 5, 0));
+	EXPECT(tells_fault(gitwire_packet_reader_packets(reader, BYTES("00x"), packets, 2, BUFFER), GITWIRE_FAULT_BAD_DIGIT, 3, 2 * length + 11));
+	EXPECT(tells_fault(gitwire_packet_reader_packets(reader, line, length, packets, 2, BUFFER), GITWIRE_FAULT_BAD_DIGIT, 0, 2 * length + 11));
+	EXPECT(tells_fault(gitwire_packet_reader_packets_in_place(reader, line, length, packets, 2), GITWIRE_FAULT_BAD_DIGIT, 0, 2 * length + 11));
 	gitwire_packet_reader_free(reader);
 	EXPECT(gitwire_client_new(&client, GITWIRE_SHA1, GITWIRE_ENDS_BY_FLUSH) == GITWIRE_DONE);
 	EXPECT(tells(gitwire_client_events(client, line, length, events, 0, BUFFER), GITWIRE_BUFFER_TOO_SMALL, 0, 0, 0));

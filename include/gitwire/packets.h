@@ -45,7 +45,28 @@ GITWIRE_LOOKED_AT
 gitwire_answer gitwire_packet_reader_packets(gitwire_packet_reader *reader, const uint8_t *chunk, size_t chunk_length,
 	gitwire_answer *packets, size_t packets_length, uint8_t *buffer, size_t buffer_length);
 
-/* Where the payload of a packet of the array is: in the chunk or in the buffer of that call. Its length is the packet's `length`. */
+/*
+ * The same with no buffer, so that no payload is copied for the caller: one that is not in the chunk stays in the reader, and the
+ * array ends with its packet, which is then the only one. gitwire_packet_reader_held returns where it is.
+ *
+ * MORE: the chunk is used up; or the array is full, or its packet's payload stayed in the reader, and the call is to be made again
+ * with the other bytes. FAILED: the error after these packets; no byte was lost. BUFFER_TOO_SMALL: the array has no place.
+ */
+GITWIRE_LOOKED_AT
+gitwire_answer gitwire_packet_reader_packets_in_place(gitwire_packet_reader *reader, const uint8_t *chunk, size_t chunk_length,
+	gitwire_answer *packets, size_t packets_length);
+
+/*
+ * Where the reader has the payload of the packet that it returned last, until the next call with the reader other than this one:
+ * gitwire_payload takes it in the place of a buffer.
+ */
+GITWIRE_LOOKED_AT
+const uint8_t *gitwire_packet_reader_held(gitwire_packet_reader *reader);
+
+/*
+ * Where the payload of a packet of the array is: in the chunk or in the buffer of that call, or where the reader has it. Its length
+ * is the packet's `length`.
+ */
 GITWIRE_LOOKED_AT
 const uint8_t *gitwire_payload(const gitwire_answer *packet, const uint8_t *chunk, const uint8_t *buffer);
 #ifdef GITWIRE_IN_PLACE

@@ -7,6 +7,7 @@ pub mod GreetingLaws
 pub mod GreetingParts
 pub mod Handing
 pub mod ListedEvents
+pub mod ListedInPlace
 pub mod ListedPackets
 pub mod Making
 pub mod Reporting

@@ -93,7 +93,7 @@ nothing_listed old chunk packets buffer = record {
 }
 
 -- one call more
-feeds_more : (ps : List GitwireAnswer) (old mid new : PacketReader) (chunk buffer : List ℕ) (from end : ℕ) → FeedsEach old chunk buffer from ps mid end
+pub feeds_more : (ps : List GitwireAnswer) (old mid new : PacketReader) (chunk buffer : List ℕ) (from end : ℕ) → FeedsEach old chunk buffer from ps mid end
     → (packet : Packet) (offset used : ℕ) (p : GitwireAnswer) → GivesNext mid chunk buffer end p packet offset used new
     → FeedsEach old chunk buffer from (ps ++ p ∷ []) new (end + used)
 feeds_more [] old mid new chunk buffer from end (same, at) packet offset used p gives =
@@ -128,7 +128,7 @@ stays RespEnd used buffer written is short = is
 stays (Payload bytes) used buffer written is short = is.0 short
 
 -- where the payload of one packet more lies
-lies_more : (packet : Packet) (mid new : PacketReader) (chunk buffer written : List ℕ) (end offset used : ℕ) → passes_of mid ≡ false
+pub lies_more : (packet : Packet) (mid new : PacketReader) (chunk buffer written : List ℕ) (end offset used : ℕ) → passes_of mid ≡ false
     → Feeds mid (drop end chunk) (record { used = used; got = Got.Packet packet offset }) new → end + used ≤ length chunk
     → IsWritten packet used buffer written → (used < length (body_of (seen packet)) → end ≡ 0)
     → PayloadLies chunk written (end + used) packet

@@ -7,7 +7,9 @@ pub mod EventLists
 pub mod FaultAnswers
 pub mod Greetings
 pub mod Handles
+pub mod HandlesLent
 pub mod Held
+pub mod HeldLent
 pub mod HostAnswers
 pub mod KindAnswers
 pub mod Machines
@@ -15,6 +17,8 @@ pub mod Numbers
 pub mod Offers
 pub mod PacketAnswers
 pub mod PacketLists
+pub mod PacketsInPlace
+pub mod PayloadsLent
 pub mod RepositoryAnswers
 pub mod RequestAnswers
 pub mod RequestReaderAnswers

@@ -60,6 +60,18 @@ pub struct GitwirePacketReader {
     ghost kind: { is_none_or gatherer_of handle.held.machine ≡ true },
 }
 
+impl GitwirePacketReader {
+    ghost use Rattle.gitwire.specs.Handles.{packet_reader_in};
+    ghost use Rattle.gitwire.specs.PayloadsLent.{payload_lent};
+
+    /// The payload of the packet that the reader gave last, where it is; no bytes if the handle has none.
+    pub(crate) fn payload(&mut self) -> &[u8]
+        ensures { result.now ≡ payload_lent (packet_reader_in self.old) }
+    {
+        self.handle.payload()
+    }
+}
+
 impl Holds for GitwirePacketReader {
     ghost use Rattle.gitwire.specs.Handles.{gatherer_in};
 

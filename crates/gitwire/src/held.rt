@@ -24,6 +24,9 @@ impl Model for Held {
 }
 
 impl Held {
+    ghost use Rattle.std.specs.Borrow.{sem};
+    ghost use Rattle.gitwire.specs.HeldLent.{LendsMachine};
+
     fn none(alloc: Global) -> Held
         ensures { result.machine ≡ None }
     {
@@ -54,6 +57,15 @@ impl Held {
         }
     }
 
+    /// The machine, where it is.
+    fn machine(&mut self) -> &mut Machine
+        requires { IsSome self.old.machine }
+        ensures* writes_back { sem 𝓛 (LendsMachine self.entry result) }
+        ensures value { self.old.machine ≡ Some result.now }
+    {
+        unsafe { &mut *(self.at as *mut Machine) }
+    }
+
     /// Takes apart one without a machine, since nothing is to be freed then.
     fn leave(self)
         requires { self.machine ≡ None }
@@ -76,6 +88,10 @@ pub(crate) struct Handle {
 }
 
 impl Handle {
+    ghost use Rattle.std.specs.Borrow.{sem};
+    ghost use Rattle.gitwire.specs.HandlesLent.{HandleStays};
+    ghost use Rattle.gitwire.specs.PayloadsLent.{payload_in};
+
     /// A handle without a machine.
     pub(crate) fn none(alloc: Global) -> Handle
         ensures { result.held.machine ≡ None }
@@ -94,6 +110,17 @@ impl Handle {
             held: Held::of_parts(Parts::of(machine)),
             is_made: true,
         }
+    }
+
+    /// The payload that its machine lends, where it is; no bytes without one.
+    pub(crate) fn payload(&mut self) -> &[u8]
+        ensures* stays { sem 𝓛 (HandleStays self.entry) }
+        ensures value { result.now ≡ payload_in self.old.held.machine }
+    {
+        if !self.is_made {
+            return b"";
+        }
+        self.held.machine().payload()
     }
 
     /// The machine, if the handle has one.

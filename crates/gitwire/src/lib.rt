@@ -25,6 +25,7 @@ mod numbers;
 mod offer;
 mod packet_list;
 mod packets;
+mod packets_in_place;
 mod parts;
 mod repository;
 mod request;
@@ -44,5 +45,6 @@ pub use handles::{
     GitwireClient, GitwireHost, GitwirePacketReader, GitwireRepository, GitwireRequest,
     GitwireRequestReader, GitwireServer, GitwireWriter,
 };
+pub use packets_in_place::GitwirePayload;
 pub use static_texts::GitwireText;
 pub use threads::handles_are_send;

@@ -1,5 +1,7 @@
 //! What a handle may have.
 
+ghost use Rattle.std.specs.Prelude.{◌≡◌, Some};
+
 use crate::gatherer::Gatherer;
 use git_client::Client;
 use git_host::HostServer;
@@ -21,6 +23,20 @@ pub(crate) enum Machine {
     Host(Box<HostServer<Global>, Global>),
     /// None of them, while a call has it.
     Empty,
+}
+
+impl Machine {
+    ghost use Rattle.gitwire.specs.PayloadsLent.{payload_in};
+
+    /// The payload of the packet that a packet reader gave last; no bytes for another machine.
+    pub(crate) fn payload(&self) -> &[u8]
+        ensures { result.now ≡ payload_in (Some self.now) }
+    {
+        match self {
+            Machine::PacketReader(gatherer) => gatherer.payload(),
+            _ => b"",
+        }
+    }
 }
 
 /// What a writer has: a buffer for one packet.

@@ -5,6 +5,7 @@ ghost use Rattle.git_pkt.specs.Packets.{longest_payload};
 ghost use Rattle.gitwire.specs.Calls.{On};
 ghost use Rattle.gitwire.specs.Handles.{packet_reader_in};
 ghost use Rattle.gitwire.specs.PacketLists.{EndsHere, GivesPacket, ListsInBuffer, ListsNothing, ListsPackets};
+ghost use Rattle.gitwire.specs.PacketsInPlace.{GivesListed, GivesNoneListed};
 
 use crate::answer::{GitwireAnswer, What};
 use crate::gatherer::Gatherer;
@@ -79,8 +80,7 @@ fn fill_packets(
     GitwireAnswer::of_packet(used, 0, count, What::More)
 }
 
-/// One call of `feed`, on the bytes of the chunk from this place on: the packet, or what is reported after so many packets if there is none. If the
-/// chunk has not all of the packet's payload, that is written to the front of the buffer.
+/// The next packet; if the chunk has not all of its payload, that is written to the front of the buffer.
 #[inline(always)]
 fn next(
     gatherer: &mut Gatherer,
@@ -94,6 +94,25 @@ fn next(
     ensures { MatchResult result (λ packet. GivesPacket gatherer.old.reader chunk.now from buffer.old packet buffer.new gatherer.new.reader)
         (λ answer. EndsHere gatherer.old.reader chunk.now from count buffer.old answer buffer.new gatherer.new.reader) }
 {
+    let packet = next_packet(gatherer, chunk, from, count)?;
+    if packet.used - from < packet.length {
+        buffer[..packet.length].copy_from_slice(gatherer.payload());
+    }
+    Ok(packet)
+}
+
+/// One call of `feed`, on the bytes of the chunk from this place on: the packet, or what is reported after so many packets if there is none.
+#[inline(always)]
+pub(crate) fn next_packet(
+    gatherer: &mut Gatherer,
+    chunk: &[u8],
+    from: usize,
+    count: usize,
+) -> Result<GitwireAnswer, GitwireAnswer>
+    requires within { from ≤ length chunk.now }
+    ensures { MatchResult result (λ packet. GivesListed gatherer.old.reader chunk.now from packet gatherer.new.reader)
+        (λ answer. GivesNoneListed gatherer.old.reader chunk.now from count answer gatherer.new.reader) }
+{
     let fed = gatherer.reader.feed(&chunk[from..], &mut Steps::new());
     let used = from + fed.used;
     match fed.got {
@@ -102,16 +121,13 @@ fn next(
             length: count,
             ..GitwireAnswer::of_fault(used, fault)
         }),
-        Got::Packet(packet, offset) => match packet {
-            Packet::Flush => Ok(GitwireAnswer::of_packet(used, offset, 0, What::Flush)),
-            Packet::Delim => Ok(GitwireAnswer::of_packet(used, offset, 0, What::Delim)),
-            Packet::RespEnd => Ok(GitwireAnswer::of_packet(used, offset, 0, What::ResponseEnd)),
+        Got::Packet(packet, offset) => Ok(match packet {
+            Packet::Flush => GitwireAnswer::of_packet(used, offset, 0, What::Flush),
+            Packet::Delim => GitwireAnswer::of_packet(used, offset, 0, What::Delim),
+            Packet::RespEnd => GitwireAnswer::of_packet(used, offset, 0, What::ResponseEnd),
             Packet::Payload(bytes) => {
-                if fed.used < bytes.len() {
-                    buffer[..bytes.len()].copy_from_slice(bytes);
-                }
-                Ok(GitwireAnswer::of_packet(used, offset, bytes.len(), What::Payload))
+                GitwireAnswer::of_packet(used, offset, bytes.len(), What::Payload)
             }
-        },
+        }),
     }
 }
