@@ -26,7 +26,8 @@ const HEAD: &[u8] =
     b"0050aaaaaaaaaaaaaaaaaaaaaaaaaaaaaaaaaaaaaaaa HEAD symref-target:refs/heads/main\n";
 
 /// The line of a tag, whose peeled object was reported in upper case.
-const TAG: &[u8] = b"006aaaaaaaaaaaaaaaaaaaaaaaaaaaaaaaaaaaaaaaaa refs/tags/v1 peeled:bbbbbbbbbbbbbbbbbbbbbbbbbbbbbbbbbbbbbbbb\n";
+const TAG: &[u8] =
+    b"006aaaaaaaaaaaaaaaaaaaaaaaaaaaaaaaaaaaaaaaaa refs/tags/v1 peeled:bbbbbbbbbbbbbbbbbbbbbbbbbbbbbbbbbbbbbbbb\n";
 
 /// A reference with neither a target nor a peeled object.
 fn plain<'a>(digits: &'a [u8], name: &'a [u8]) -> ReferenceTexts<'a> {
@@ -39,11 +40,7 @@ fn plain<'a>(digits: &'a [u8], name: &'a [u8]) -> ReferenceTexts<'a> {
 }
 
 /// A server that was asked for references.
-fn new_listing<A: Memory + Copy>(
-    rt: &impl Abort,
-    alloc: A,
-    request: &[u8],
-) -> HostServer<A> {
+fn new_listing<A: Memory + Copy>(rt: &impl Abort, alloc: A, request: &[u8]) -> HostServer<A> {
     let mut server = new_host(alloc);
     expect(rt, &server.feed(request, &mut Steps::new()), &request.len());
     assert!(rt; server.accept());
