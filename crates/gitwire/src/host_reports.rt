@@ -189,7 +189,7 @@ pub extern "C" fn gitwire_host_reference(
 }
 
 /// `HEAD` is unborn and points to this name; it is reported before any reference: `Packet` if the request asks for it, and else `More`.
-/// `Failed` by `BadRefName`, and nothing changed.
+/// `Failed` by `BadRefName`, and `NotNow` once a reference or an unborn `HEAD` was reported: nothing changed.
 #[unsafe(no_mangle)]
 pub extern "C" fn gitwire_host_unborn(
     alloc: Global,
