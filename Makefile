@@ -38,9 +38,9 @@ program:
 library:
 	$(call prove,gitwire,lib)
 
-# Installs the program with its manual pages and completions for shells, and the library with its own, its header, what that names (the pages
-# on the protocol and on what is promised, the script that writes a repository text, the examples), and what pkg-config prints for it: a C
-# program is then built with `pkg-config --cflags --libs gitwire` and nothing of this folder. It has the library twice: as an archive, and
+# Installs the program with its manual pages and completions for shells, and the library with its own pages, each under the name of every call
+# that it describes too, its header, what that names (the pages on the protocol and on what is promised, the script that writes a repository text,
+# the examples), and what pkg-config prints for it: a C program is then built with `pkg-config --cflags --libs gitwire` and nothing of this folder. It has the library twice: as an archive, and
 # as a shared library of the same objects, which shows the calls of the header alone. What was built is taken as it is; what was not is
 # proved first, and each is reported. The library's part in C is compiled here.
 install: prefix = $(abspath $(PREFIX))
@@ -53,6 +53,11 @@ install: $(PROGRAM) $(LIBRARY)
 	@install -D -m 755 "$(PROGRAM)" "$(to)/bin/git2show"
 	@install -D -m 644 -t "$(to)/share/man/man1" man/git2show.1
 	@install -D -m 644 -t "$(to)/share/man/man3" $(wildcard man/*.3)
+	@for page in man/*.3; do \
+		for call in $$(sed -n 's/^\.BR \(gitwire_[a-z_0-9]*\) ().*/\1/p' "$$page"); do \
+			ln -sf "$${page##*/}" "$(to)/share/man/man3/$$call.3" || exit; \
+		done; \
+	done
 	@install -D -m 644 -t "$(to)/share/man/man5" man/git2show.5
 	@install -D -m 644 completions/git2show.bash "$(to)/share/bash-completion/completions/git2show"
 	@install -D -m 644 -t "$(to)/share/zsh/site-functions" completions/_git2show

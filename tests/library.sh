@@ -301,14 +301,17 @@ is_well_written() {
     expect_same "what man reports on $1" /dev/null err
 }
 
-# Each call is in one page of section 3, with the prototype of the installed header.
+# Each call is in one page of section 3, with the prototype of the installed header, and `man` finds that page by the call's name.
 case_manual_pages_have_each_call() {
-    local page
+    local page call
     run "$top/tests/manual_pages.py" "$installed/include/gitwire" "$installed/share/man/man3"
     expect 0 /dev/null /dev/null
-    for page in "$installed"/share/man/man3/gitwire*.3; do
+    for page in "$top"/man/gitwire*.3; do
         is_well_written "man3/${page##*/}"
     done
+    while read -r call; do
+        grep -q "^\.BR $call ()" "$installed/share/man/man3/$call.3" || differs "no page named $call"
+    done < <(sed -n 's/^\t\t\(gitwire_[a-z_0-9]*\);$/\1/p' "$top/gitwire.map")
 }
 
 # The examples of these pages compile; those that are whole programs run, and print what the library has them print.

@@ -24,6 +24,11 @@ def of_headers(folder):
     return dict(pair for text in texts for pair in prototypes(text))
 
 
+def pages_of(folder):
+    """The pages of a folder, each once: a link is a page's name for one of its calls."""
+    return [path for path in sorted(folder.glob("gitwire*.3")) if not path.is_symlink()]
+
+
 def blocks(page, section):
     """What lies between .EX and .EE in a section of a page, as it is read."""
     text = "".join(re.findall(rf"^\.SH {section}\n(.*?)(?=^\.SH |\Z)", page, re.M | re.S))
@@ -34,7 +39,7 @@ def blocks(page, section):
 def faults(headers, pages):
     calls = set(re.findall(r"^\t\t(gitwire_[a-z_0-9]+);$", (TOP / "gitwire.map").read_text(), re.M))
     declared, stated, described = of_headers(headers), {}, {}
-    for path in sorted(pages.glob("gitwire*.3")):
+    for path in pages_of(pages):
         page = path.read_text()
         for name, prototype in (pair for block in blocks(page, "SYNOPSIS") for pair in prototypes(block)):
             stated.setdefault(name, []).append((path.stem, prototype))
@@ -50,7 +55,7 @@ def faults(headers, pages):
 
 
 def write_examples(pages, folder):
-    for path in sorted(pages.glob("gitwire*.3")):
+    for path in pages_of(pages):
         examples = blocks(path.read_text(), "EXAMPLE")
         if len(examples) != 1:
             sys.exit(f"tests/manual_pages.py: {path.name} has {len(examples)} examples")

@@ -38,12 +38,12 @@ mod names;
 #[cfg(test)]
 mod packs;
 #[cfg(test)]
-#[cfg(test)]
 mod playing_memory;
 #[cfg(test)]
 mod readiness;
 #[cfg(test)]
 mod recorded;
+#[cfg(test)]
 mod reported_references;
 #[cfg(test)]
 mod repository_memory;
