@@ -39,10 +39,10 @@ library:
 	$(call prove,gitwire,lib)
 
 # Installs the program with its manual pages and completions for shells, and the library with its own pages, each under the name of every call
-# that it describes too, its header, what that names (the pages on the protocol and on what is promised, the script that writes a repository text,
-# the examples), and what pkg-config prints for it: a C program is then built with `pkg-config --cflags --libs gitwire` and nothing of this folder. It has the library twice: as an archive, and
-# as a shared library of the same objects, which shows the calls of the header alone. What was built is taken as it is; what was not is
-# proved first, and each is reported. The library's part in C is compiled here.
+# that it describes too, its header, what that names (the pages on the protocol and on what is promised, the script that writes a repository
+# text, the examples), and what pkg-config prints for it: a C program is then built with `pkg-config --cflags --libs gitwire` and nothing of
+# this folder. It has the library twice: as an archive, and as a shared library of the same objects, which shows the calls of the header alone.
+# What was built is taken as it is; what was not is proved first, and each is reported. The library's part in C is compiled here.
 install: prefix = $(abspath $(PREFIX))
 install: to = $(DESTDIR)$(prefix)
 install: $(PROGRAM) $(LIBRARY)
