@@ -124,7 +124,7 @@ calls_of_the_header() {
 # calls_for_c: the names of the calls that only c/gitwire.c makes: `_clear` of each kind of handle, and what it declares itself.
 calls_for_c() {
     sed -n -e 's/^FREES(\(gitwire_[a-z_]*\))$/\1_clear/p' \
-        -e 's/^[a-z_]* \(gitwire_[a-z_]*_\(init\|init_filtered\|init_lent\|init_lent_filtered\|clear\|words\|text\)\)(.*/\1/p' "$top/c/gitwire.c"
+        -e 's/^[a-z_]* \(gitwire_[a-z_]*_\(init\|init_filtered\|init_lent\|init_lent_filtered\|clear\|lend\|words\|text\)\)(.*/\1/p' "$top/c/gitwire.c"
 }
 
 case_library_has_the_calls_of_its_header() {
