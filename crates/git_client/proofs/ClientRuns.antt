@@ -1,11 +1,11 @@
 -- A run of a client over its streams so far, and what is true of it at each of its ends.
-use Rattle.std.proofs.Common.{◌≡◌, inl, inr, ℕ, Bool, true, false, List, [], ◌∷◌, ◌++◌, Option, None}
+use Rattle.std.proofs.Common.{◌≡◌, inl, inr, ℕ, Bool, true, false, List, [], ◌∷◌, ◌++◌, Option, Some, None}
 use Rattle.std.proofs.Common.{◌||◌, IsTrue, Result, Ok, Err, is_err, IfErr, IsErrAnd, refl, sym, ap, ◌∙◌, subst, append_assoc, append-nil}
 use Rattle.std.proofs.Math.Bool.{or-false}
 use Rattle.std.proofs.lemmas.Bool.{or_from, or_left}
 use Rattle.std.proofs.lemmas.Result.{err_from_is_err_and}
-use Rattle.std.proofs.KnownBytes.{Appends-kept, Consumes-nil, Consumes-trans}
-use Rattle.std.specs.Io.KnownBytes.{Consumes, Keeps}
+use Rattle.std.proofs.KnownBytes.{Appends-kept, Consumes-trans}
+use Rattle.std.specs.Io.KnownBytes.{Consumes, Keeps, prepend_known}
 use Rattle.git_pkt.specs.Machine.Engine.{FailsAs, IsShownBy}
 use Rattle.git_pkt.specs.declared.fault.Fault.{Fault}
 use Rattle.git_pkt.specs.declared.fault.RunFault.{RunFault}
@@ -23,13 +23,12 @@ use Rattle.git_client.specs.Machine.Client.{History, Converses, Leaves, nothing_
 use Rattle.git_client.specs.Machine.Client.{left_to_send, phase_of, request_of}
 use Rattle.git_pkt.specs.Streams.{Flow, flow, WrittenAs, Moves, is_broken}
 use Rattle.git_client.specs.Machine.RunSteps.{ReceivesFrom, ReceivesResponse, ReceivesWholeResponse, SendsPackets, AsksNext, AsksNot, AsksTo}
-use Rattle.git_client.specs.Machine.RunSteps.{FaultsInTime, no_counts, window_of}
+use Rattle.git_client.specs.Machine.RunSteps.{FaultsInTime, no_counts}
 use Rattle.git_client.specs.Machine.Runs.{leaves_last, HasSent, IsBrokenRun, IsInterrupted, IsRefusedRequest, IsWholeRun, EndsAs, Conversed}
 use Rattle.git_client.specs.declared.client.Client.{Client}
 use Rattle.git_client.specs.declared.events.Ending.{Ending}
 use Rattle.git_client.specs.declared.events.Ending.TheVariants.{FlushOnly, ResponseEnd}
 use Rattle.git_client.specs.declared.receiving.Counts.{Counts}
-use Rattle.git_client.specs.declared.receiving.Window.{Window}
 use Rattle.git_client.proofs.Alongs.{in_time_where_sound, in_time_where_announced}
 use Rattle.git_client.proofs.Alongs.{IsAnnounced, Along, along_anew, along_asked, along_begun, along_received, counts_on}
 use Rattle.git_client.proofs.Counting.{progress_bytes-append}
@@ -41,12 +40,17 @@ use Rattle.git_client.proofs.AskedInTurn.{AskedInTurn, asked_in_turn, has_asked,
 
 -- ---- what was read and written
 
--- some of the waiting and the newly read bytes were used
-pub read_on : (before held after : Option (List ℕ)) (used waiting came more unused : List ℕ) → Consumes before held (used ++ waiting)
-    → Consumes held after came → waiting ++ came ≡ more ++ unused → Consumes before after ((used ++ more) ++ unused)
-read_on before held after used waiting came more unused first second parts =
-    subst (Consumes before after) (append_assoc used waiting came ∙ ap (λ (l : List ℕ). used ++ l) parts ∙ sym (append_assoc used more unused))
-    (Consumes-trans before held after (used ++ waiting) came first second)
+-- no byte of a reader was used, and none waits
+unread : (left : Option (List ℕ)) → Consumes left (prepend_known [] left) []
+unread None = tt
+unread (Some bytes) = refl
+
+-- the bytes that wait were read
+read_with : (before after : Option (List ℕ)) (used waiting : List ℕ) → Consumes before (prepend_known waiting after) used
+    → Consumes before after (used ++ waiting)
+read_with None after used waiting read = tt
+read_with (Some bytes) None used waiting read = absurd read
+read_with (Some bytes) (Some rest) used waiting read = read ∙ sym (append_assoc used waiting rest)
 
 -- if nothing more is asked or received, the lines so far are the whole transcript
 all_lines : (ready : Bool) (h : History) (lines : List ℕ) (counts : Counts) → IsAnnounced ready h lines counts
@@ -116,7 +120,7 @@ module _ {A : Type 0} where
     pub along : Along t h client lines packed counts
     pub stays : h.left ≡ false
     pub in_turn : AskedInTurn t h.asked h.used h.events front
-    pub read : Consumes reader.before reader.after (h.used ++ unused)
+    pub read : Consumes reader.before (prepend_known unused reader.after) h.used
     pub content : WrittenAs broken writer h.given
     pub announced : WrittenAs broken out lines
     pub sent : WrittenAs broken pack packed
@@ -127,7 +131,7 @@ module _ {A : Type 0} where
       (reader writer out pack progress : Flow) : Type 0 where
     pub stands : Converses t h client
     pub in_turn : AskedInTurn t h.asked h.used h.events front
-    pub read : Consumes reader.before reader.after (h.used ++ unused)
+    pub read : Consumes reader.before (prepend_known unused reader.after) h.used
     pub content : WrittenAs broken writer h.given
     pub announced : WrittenAs broken out (transcript_of h.asked h.events)
     pub sent : WrittenAs broken pack (pack_bytes h.events)
@@ -150,7 +154,7 @@ module _ {A : Type 0} where
   -- the same run over streams that moved in another way to the same contents
   pub ran_as : {broken again : Bool} {t : Terms} {h : History} {front : List (Request A)} {client : Client A} {unused more : List ℕ}
       {reader writer out pack progress reader_now writer_now out_now pack_now progress_now : Flow}
-      → Ran broken t h front client unused reader writer out pack progress → Consumes reader_now.before reader_now.after (h.used ++ more)
+      → Ran broken t h front client unused reader writer out pack progress → Consumes reader_now.before (prepend_known more reader_now.after) h.used
       → WrittenAs again writer_now h.given → WrittenAs again out_now (transcript_of h.asked h.events) → WrittenAs again pack_now (pack_bytes h.events)
       → WrittenAs again progress_now (progress_bytes h.events) → Ran again t h front client more reader_now writer_now out_now pack_now progress_now
   ran_as r read content announced sent reported =
@@ -161,15 +165,16 @@ module _ {A : Type 0} where
   module _ (t : Terms) where
     -- before the first byte: the writer was flushed, or the flush failed
     pub begins : (client : Client A) (reader writer flushed out pack progress : Option (List ℕ)) → wants_input client ≡ true → Converses t nothing_yet client
-        → Keeps writer flushed → Running false t nothing_yet [] client no_counts [] (flow reader reader) (flow writer flushed) (flow out out)
-        (flow pack pack) (flow progress progress)
-    begins client reader writer flushed out pack progress expected stands kept = record {
+        → Keeps writer flushed → {unused : List ℕ} → unused ≡ []
+        → Running false t nothing_yet [] client no_counts unused (flow reader reader) (flow writer flushed) (flow out out) (flow pack pack)
+        (flow progress progress)
+    begins client reader writer flushed out pack progress expected stands kept none = record {
       lines = [];
       packed = [];
       along = along_begun t client expected stands;
       stays = refl;
       in_turn = none_in_turn t;
-      read = Consumes-nil reader;
+      read = subst (λ (l : List ℕ). Consumes reader (prepend_known l reader) []) (sym none) (unread reader);
       content = Appends-kept writer writer flushed [] (written_nothing writer) kept;
       announced = written_nothing out;
       sent = written_nothing pack;
@@ -218,7 +223,7 @@ module _ {A : Type 0} where
           along = along_received r.along waits arrived;
           stays = r.stays;
           in_turn = received_in_turn t h.asked h.used step.used h.events arrived.events front r.in_turn;
-          read = read_on r0 r1 r2 h.used waiting step.came step.used unused r.read step.read step.parts;
+          read = Consumes-trans r0 (prepend_known waiting r1) (prepend_known unused r2) h.used step.used r.read step.read;
           content = written_whole broken writer h.given r.content;
           announced = written_then broken o0 o1 o2 r.lines lines r.announced (arrived.announced (counts_on r.along arrived.arrives));
           sent = written_then broken p0 p1 p2 r.packed (pack_bytes arrived.events) r.sent arrived.sent;
@@ -244,18 +249,18 @@ module _ {A : Type 0} where
     }
 
     -- a response was received whole
-    pub receives_whole : {h : History} (front : List (Request A)) (old new : Client A) (waiting : List ℕ) (window : Window) (chunk : List ℕ)
+    pub receives_whole : {h : History} (front : List (Request A)) (old new : Client A) (waiting unused : List ℕ)
         {writer : Flow} {left_before left left_after out_before out_held out_after pack_before pack_held pack_after : Option (List ℕ)}
         {progress_before progress_held progress_after : Option (List ℕ)}
         → Running false t h front old no_counts waiting (flow left_before left) writer (flow out_before out_held) (flow pack_before pack_held)
         (flow progress_before progress_held) → wants_input old ≡ true
-        → (step : ReceivesWholeResponse window old new waiting chunk (flow left left_after) (flow out_held out_after) (flow pack_held pack_after)
+        → (step : ReceivesWholeResponse old new waiting unused (flow left left_after) (flow out_held out_after) (flow pack_held pack_after)
         (flow progress_held progress_after))
         → Running false t (record h { used = h.used ++ step.arrives.used; events = h.events ++ step.arrives.bytes.events }) front new no_counts
-        (window_of window chunk) (flow left_before left_after) writer (flow out_before out_after) (flow pack_before pack_after)
+        unused (flow left_before left_after) writer (flow out_before out_after) (flow pack_before pack_after)
         (flow progress_before progress_after)
-    receives_whole front old new waiting window chunk r waits step =
-        anew step.can_ask_on (receives_on false front old new waiting (window_of window chunk) r waits step.arrives)
+    receives_whole front old new waiting unused r waits step =
+        anew step.can_ask_on (receives_on false front old new waiting unused r waits step.arrives)
 
     -- the client left, or a write failed meanwhile
     pub leaves_on : (broken : Bool) {h : History} (front : List (Request A)) (old mid new : Client A) (counts : Counts) (unused : List ℕ)
@@ -309,11 +314,12 @@ module _ {A : Type 0} (t : Terms) where
   stayed h client stands quiet = stands.left ∙ not_left (phase_of client) quiet
 
   -- a run that ends while the server's bytes are expected was interrupted
-  pub interrupted : (h : History) (client : Client A) → Converses t h client → wants_input client ≡ true → IsInterrupted t [] h
-  interrupted h client stands expected =
+  pub interrupted : (h : History) (client : Client A) (unused : List ℕ) → Converses t h client → unused ≡ [] → wants_input client ≡ true
+      → IsInterrupted t unused h
+  interrupted h client unused stands all expected =
       let quiet = quiet_where_expected (phase_of client) expected in
       record {
-        all = refl;
+        all = all;
         goes_on = awaits_more t h client stands expected;
         stays = stayed h client stands quiet;
         content = quietly_stated h client stands quiet;
@@ -345,8 +351,8 @@ module _ {A : Type 0} (t : Terms) where
       (subst (WrittenAs false (flow o0 o2)) (append-nil announced) (written_then false o0 o1 o2 announced [] at.announced step.announced)) at.sent at.reported
 
   -- a client that waits for bytes has no error
-  expected_in_time : (ended : Bool) (client : Client A) → wants_input client ≡ true → FaultsInTime client ended []
-  expected_in_time ended client expected = in_time_where_sound client ended [] (sound_where_expected (phase_of client) expected)
+  expected_in_time : (ended : Bool) (client : Client A) (unused : List ℕ) → wants_input client ≡ true → FaultsInTime client ended unused
+  expected_in_time ended client unused expected = in_time_where_sound client ended unused (sound_where_expected (phase_of client) expected)
 
   module _ (requests : List (Request A)) where
     -- how a run with this result moved its streams
@@ -374,10 +380,10 @@ module _ {A : Type 0} (t : Terms) where
       moves : (result : Result (Unit {0}) RunFault) (ended : Bool) (h : History) (client : Client A) (unused : List ℕ) {reader writer out pack progress : Flow}
           → Ran (is_broken result) t h front client unused reader writer out pack progress → EndsAs t result ended unused rest h
           → FaultsInTime client ended unused → RunEnds result ended client reader writer out pack progress
-      moves result ended h client unused r ends timely = record {
+      moves result ended h client unused {reader} r ends timely = record {
         used = (h.used ++ unused) ∷ [];
         given = h.given ∷ transcript_of h.asked h.events ∷ pack_bytes h.events ∷ progress_bytes h.events ∷ [];
-        read = (r.read, tt);
+        read = (read_with reader.before reader.after h.used unused r.read, tt);
         written = (r.content, (r.announced, (r.sent, (r.reported, tt))));
         related = record {
           h = h;
@@ -410,32 +416,34 @@ module _ {A : Type 0} (t : Terms) where
           moves (Err WriteFault) ended h client unused (ran_in_part t (ran r)) (not_gone h r.stays) (in_time_where_sound client ended unused sound)
 
       -- a response was not received to its end
-      pub receiving_ended : {h : History} (fault : RunFault) (ended : Bool) (old new : Client A) (waiting chunk : List ℕ) {writer : Flow}
+      pub receiving_ended : {h : History} (fault : RunFault) (ended : Bool) (old new : Client A) (waiting unused : List ℕ) {writer : Flow}
           {left_before left left_after out_before out_held out_after pack_before pack_held pack_after : Option (List ℕ)}
           {progress_before progress_held progress_after : Option (List ℕ)}
           → Running false t h front old no_counts waiting (flow left_before left) writer (flow out_before out_held) (flow pack_before pack_held)
           (flow progress_before progress_held)
           → wants_input old ≡ true
-          → ReceivesResponse (Err fault) ended old new waiting chunk (flow left left_after) (flow out_held out_after) (flow pack_held pack_after)
+          → ReceivesResponse (Err fault) ended old new waiting unused (flow left left_after) (flow out_held out_after) (flow pack_held pack_after)
           (flow progress_held progress_after)
           → RunEnds (Err fault) ended new (flow left_before left_after) writer (flow out_before out_after) (flow pack_before pack_after)
           (flow progress_before progress_after)
-      receiving_ended ReadFault ended old new waiting chunk r waits step =
-          let on = receives_on t false front old new waiting [] r waits step.arrives in
-          moves (Err ReadFault) ended _ new [] (ran on) (interrupted _ new on.along.stands step.expected) (expected_in_time ended new step.expected)
-      receiving_ended WriteFault ended old new waiting chunk r waits step =
-          breaks_off ended new step.arrives.counts step.unused step.timely (receives_on t true front old new waiting step.unused r waits step.arrives)
-      receiving_ended ReadLimit ended old new waiting chunk r waits step =
-          let on = receives_on t false front old new waiting [] r waits step.arrives in
-          moves (Err ReadLimit) ended _ new [] (ran on) (interrupted _ new on.along.stands step.expected) (expected_in_time ended new step.expected)
-      receiving_ended (Refused fault) ended old new waiting chunk r waits step =
-          let on = receives_on t false front old new waiting step.unused r waits step.arrives in
+      receiving_ended ReadFault ended old new waiting unused r waits step =
+          let on = receives_on t false front old new waiting unused r waits step.arrives in
+          moves (Err ReadFault) ended _ new unused (ran on) (interrupted _ new unused on.along.stands step.all step.expected)
+          (expected_in_time ended new unused step.expected)
+      receiving_ended WriteFault ended old new waiting unused r waits step =
+          breaks_off ended new step.arrives.counts unused step.timely (receives_on t true front old new waiting unused r waits step.arrives)
+      receiving_ended ReadLimit ended old new waiting unused r waits step =
+          let on = receives_on t false front old new waiting unused r waits step.arrives in
+          moves (Err ReadLimit) ended _ new unused (ran on) (interrupted _ new unused on.along.stands step.all step.expected)
+          (expected_in_time ended new unused step.expected)
+      receiving_ended (Refused fault) ended old new waiting unused r waits step =
+          let on = receives_on t false front old new waiting unused r waits step.arrives in
           let quiet = quiet_where_failed (phase_of new) fault step.announced in
-          moves (Err (Refused fault)) ended _ new step.unused (ran on) (
+          moves (Err (Refused fault)) ended _ new unused (ran on) (
             inl (record { first = first_fault t _ new fault on.along.stands step.announced; timely = step.timely }),
             on.stays,
             quietly_stated _ new on.along.stands quiet,
-          ) (in_time_where_announced new fault ended step.unused step.announced step.timely)
+          ) (in_time_where_announced new fault ended unused step.announced step.timely)
 
     -- a request was not asked, or a write failed meanwhile
     pub asking_stopped : {h : History} (fault : RunFault) (ended : Bool) (front later : List (Request A)) (request : Request A) (old new : Client A)

@@ -158,7 +158,7 @@ text_within bytes = go (nat_lt 0 (length bytes) && (slice_index bytes (length by
   go true = grind (arith, common_steps)
   go false = omega arith
 
-digits_at_most : (format : Format) → digits_of format ≤ 64
+pub digits_at_most : (format : Format) → digits_of format ≤ 64
 digits_at_most Sha1 = omega arith
 digits_at_most Sha256 = omega arith
 
@@ -205,7 +205,7 @@ read_fits packfile format text events h within = absurd h
 read_fits response_end format text events h within = absurd h
 
 -- bytes on a band are parts of one byte each
-each_one : (event : ℕ → EventValue) (bytes : List ℕ) → ((byte : ℕ) → parts_length (event byte) ≡ 1) → all_parts_length (map event bytes) ≡ length bytes
+pub each_one : (event : ℕ → EventValue) (bytes : List ℕ) → ((byte : ℕ) → parts_length (event byte) ≡ 1) → all_parts_length (map event bytes) ≡ length bytes
 each_one event [] one = refl
 each_one event (byte ∷ bytes) one =
     let more : all_parts_length (map event (byte ∷ bytes)) ≡ parts_length (event byte) + all_parts_length (map event bytes) =

@@ -21,6 +21,7 @@ pub mod Closed
 pub mod Determined
 pub mod Writing
 pub mod EventLines
+pub mod Holding
 pub mod Faults
 pub mod OneFault
 pub mod Packs
@@ -37,8 +38,10 @@ pub mod ResponseRules
 pub mod ConversationRules
 pub mod WaitingLines
 pub mod ReceivingSteps
+pub mod ReceiverCalls
+pub mod ReceiverRuns
+pub mod Outputting
 pub mod SendingSteps
-pub mod ReceivingBytes
 pub mod Notes
 pub mod AskedInTurn
 pub mod ClientRuns

@@ -86,7 +86,7 @@ AreSame [] [] = Unit {0}
 AreSame (bytes ∷ more) (others ∷ rest) = (bytes ≡ others) × AreSame more rest
 AreSame _ _ = ⊥
 
-line_same : (given shown : List (List ℕ)) → AreSame given shown → line_by given ≡ line_by shown
+pub line_same : (given shown : List (List ℕ)) → AreSame given shown → line_by given ≡ line_by shown
 line_same [] [] same = refl
 line_same (bytes ∷ more) (others ∷ rest) (same, all) = ap₂ (λ (l m : List ℕ). l ++ m) same (line_same more rest all)
 line_same [] (others ∷ rest) same = absurd same
@@ -102,7 +102,7 @@ no_failure now true first e h = e ∙ h
 no_failure now false first e h = e ∙ h
 
 -- the escapes of the bytes so far, and of the next
-next_escaped : (bytes : List ℕ) (done count : ℕ)
+pub next_escaped : (bytes : List ℕ) (done count : ℕ)
     → escaped_of (take done bytes) ++ escaped_of (take (done + count - done) (drop done bytes)) ≡ escaped_of (take (done + count) bytes)
 next_escaped bytes done count =
     sym (escaped-append (take done bytes) (take (done + count - done) (drop done bytes))) ∙ ap escaped_of (sym (take-next done count bytes))

@@ -4,7 +4,10 @@ pub mod Client
 pub mod Choosing
 pub mod HandedOut
 pub mod LineParts
+pub mod HeldLines
 pub mod Runs
 pub mod RunSteps
+pub mod ReceiverStates
+pub mod WriterStates
 pub mod Calls
 pub mod AnyCalls

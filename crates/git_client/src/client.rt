@@ -193,6 +193,16 @@ impl<A: Allocator + Copy> Client<A> {
         }
     }
 
+    /// The error that ended the conversation.
+    pub(crate) fn fault(&self) -> Option<Fault>
+        ensures { result ≡ fault_of self.now }
+    {
+        match self.phase {
+            Phase::Failed(fault) => Some(fault),
+            _ => None,
+        }
+    }
+
     /// The number of bytes used.
     pub fn position(&self) -> u64
         ensures value { result ≡ bytes_used self.now }

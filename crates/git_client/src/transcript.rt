@@ -1,9 +1,11 @@
 //! The transcript of a conversation: one line of text for each event.
 
-ghost use Rattle.std.specs.Prelude.{◌≡◌};
+ghost use Rattle.std.specs.Prelude.{◌≡◌, ◌++◌, ◌<◌, ◌≤◌, codes, decimal, length};
 ghost use Rattle.std.specs.Option.{option_copied};
 ghost use Rattle.git_pkt.specs.Machine.Sends.{Puts, Sends};
 ghost use Rattle.git_msg.specs.References.{peeled_text};
+ghost use Rattle.git_pkt.specs.Packets.{longest_payload};
+ghost use Rattle.git_client.specs.Events.{all_parts_length};
 ghost use Rattle.git_client.specs.Machine.Turns.{values_of};
 ghost use Rattle.git_client.specs.Transcript.{lines_of, shown_after, asked_line};
 ghost use Rattle.git_client.specs.Machine.LineParts.{part_shown, count_after, object_shown, size_after, text_word};
@@ -11,6 +13,7 @@ ghost use Rattle.git_client.specs.Machine.LineParts.{part_shown, count_after, ob
 use crate::event_parts::EventKind;
 use crate::events::Event;
 use crate::line::{Lines, Part};
+use crate::line_buffer::{FULL, LineBuffer};
 use git_msg::Command;
 use git_names::Oid;
 use git_pkt::{Recorded, RunFault};
@@ -85,6 +88,28 @@ fn put_parts<W: Write>(
     )
 }
 
+/// Puts the line of an event behind the others, as [`write_event`] writes it.
+pub(crate) fn hold_event(lines: &mut LineBuffer, event: &Event<'_>, pack: u64, progress: u64)
+    requires space { length lines.old.waiting < FULL }
+    requires few { all_parts_length (values_of event.now) ≤ longest_payload }
+    ensures { lines.new.waiting ≡ lines.old.waiting ++ lines_of (values_of event.now) pack progress }
+{
+    let parts = event.parts();
+    let Some(word) = parts.kind.word() else {
+        return;
+    };
+    lines.put_line(&[
+        Part::Word(word),
+        object_part(parts.kind, parts.id),
+        text_part(b" ", parts.name),
+        text_part(text_word(parts.kind), parts.text),
+        peeled_part(parts.peeled),
+        size_part(parts.kind, parts.size),
+        count_part(parts.kind, pack),
+        count_part(parts.kind, progress),
+    ]);
+}
+
 /// Writes the transcript line of a request, and nothing else, with the errors of [`write_event`].
 pub fn write_asked<W: Write>(out: &mut Recorded<W>, command: Command) -> Result<(), RunFault>
     ensures { Sends W.contents out.old (asked_line command) result out.new }
@@ -145,10 +170,11 @@ fn text_word(kind: EventKind) -> &'static [u8]
 
 /// The size of an object, or a dash in the line of an `Info` event without a size.
 fn size_part<'a>(kind: EventKind, size: Option<u64>) -> Part<'a>
-    ensures { part_shown result ≡ size_after kind size }
+    ensures shown { part_shown result ≡ size_after kind size }
+    ensures short { length (size_after kind size) ≤ 21 }
 {
     match size {
-        Some(size) => Part::Number(b" ", size),
+        Some(size) => number_part(size),
         None => match kind {
             EventKind::Info => Part::Word(b" -"),
             _ => Part::Word(b""),
@@ -156,12 +182,21 @@ fn size_part<'a>(kind: EventKind, size: Option<u64>) -> Part<'a>
     }
 }
 
+/// A number, after a space.
+fn number_part<'a>(number: u64) -> Part<'a>
+    ensures shown { part_shown result ≡ codes " " ++ decimal number }
+    ensures short { length (codes " " ++ decimal number) ≤ 21 }
+{
+    Part::Number(b" ", number)
+}
+
 /// A number in the line at the end of a response.
 fn count_part<'a>(kind: EventKind, count: u64) -> Part<'a>
-    ensures { part_shown result ≡ count_after kind count }
+    ensures shown { part_shown result ≡ count_after kind count }
+    ensures short { length (count_after kind count) ≤ 21 }
 {
     match kind {
-        EventKind::Ended => Part::Number(b" ", count),
+        EventKind::Ended => number_part(count),
         _ => Part::Word(b""),
     }
 }

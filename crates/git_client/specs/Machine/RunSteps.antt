@@ -1,6 +1,6 @@
 -- The steps of a run: a client receives the next response, and sends the next request.
-use Rattle.std.specs.Prelude.{◌≡◌, ◌⊎◌, ℕ, ◌+◌, ◌-◌, ◌≤◌, ◌<◌, Bool, true, false, List, [], ◌∷◌, ◌++◌, length, take, drop, Some, None, Result, Ok, Err}
-use Rattle.std.specs.Io.KnownBytes.{Appends, Consumes}
+use Rattle.std.specs.Prelude.{◌≡◌, ◌⊎◌, ℕ, ◌+◌, ◌≤◌, ◌<◌, Bool, true, false, List, [], ◌∷◌, ◌++◌, length, take, Some, None, Result, Ok, Err}
+use Rattle.std.specs.Io.KnownBytes.{Appends, Consumes, prepend_known}
 use Rattle.git_pkt.specs.Packets.{Pkt, spelling_of}
 use Rattle.git_pkt.specs.Streams.{Flow, WrittenAs, IsTimely}
 use Rattle.git_pkt.specs.Machine.PacketReader.{ShownByFeed}
@@ -18,7 +18,6 @@ use Rattle.git_client.specs.Machine.Client.{History, Converses, ReceivesOn, Send
 use Rattle.git_client.specs.Machine.Client.{has_left, left_to_send, wants_input}
 use Rattle.git_client.specs.declared.client.Client.{Client}
 use Rattle.git_client.specs.declared.receiving.Counts.{Counts}
-use Rattle.git_client.specs.declared.receiving.Window.{Window}
 
 abbrev pub no_counts : Counts
 no_counts = record { pack = 0; progress = 0 }
@@ -41,10 +40,6 @@ IsOneTurn [] asks = asks ≡ false
 IsOneTurn (offered ∷ events) asks = (events ≡ []) × (asks ≡ true)
 IsOneTurn (response_ended ∷ events) asks = (events ≡ []) × (asks ≡ true)
 IsOneTurn (event ∷ events) asks = IsOneTurn events asks
-
--- the bytes of a chunk that were not used yet
-abbrev pub window_of : Window → List ℕ → List ℕ
-window_of window chunk = take (window.end - window.start) (drop window.start chunk)
 
 -- all packets before the last were written whole, and of the last a prefix
 pub record BreaksOff (stream : Flow) (given : List ℕ) : Type 0 where
@@ -103,49 +98,48 @@ module _ {A : Type 0} where
   abbrev pub FaultsInTime : Client A → Bool → List ℕ → Type 0
   FaultsInTime client ended unused = (fault : Fault) → fault_of client ≡ Some fault → IsTimely fault.kind ended unused
 
-  -- a prefix of the waiting and the newly read bytes was received
+  -- These bytes were received: they are the first of those that waited and of those that were left to read. Others still wait: the unused ones
   pub record ReceivesFrom (broken : Bool) (old new : Client A) (waiting unused : List ℕ) (reader out packs progress : Flow) : Type 0 where
-    pub came : List ℕ
     pub used : List ℕ
     pub counts : Counts
-    pub read : Consumes reader.before reader.after came
-    pub parts : waiting ++ came ≡ used ++ unused
+    pub read : Consumes (prepend_known waiting reader.before) (prepend_known unused reader.after) used
     pub bytes : ReceivesBytes broken old new no_counts counts used out packs progress
 
   -- a response was received whole
-  pub record ReceivesWholeResponse (window : Window) (old new : Client A) (waiting chunk : List ℕ) (reader out packs progress : Flow) : Type 0 where
-    pub arrives : ReceivesFrom false old new waiting (window_of window chunk) reader out packs progress
-    pub ordered : window.start ≤ window.end
-    pub within : window.end ≤ length chunk
+  pub record ReceivesWholeResponse (old new : Client A) (waiting unused : List ℕ) (reader out packs progress : Flow) : Type 0 where
+    pub arrives : ReceivesFrom false old new waiting unused reader out packs progress
     pub can_ask_on : can_ask new ≡ true
 
   -- all bytes were received, and more are expected
-  pub record ReceivesAllInput (old new : Client A) (waiting : List ℕ) (reader out packs progress : Flow) : Type 0 where
-    pub arrives : ReceivesFrom false old new waiting [] reader out packs progress
+  pub record ReceivesAllInput (old new : Client A) (waiting unused : List ℕ) (reader out packs progress : Flow) : Type 0 where
+    pub arrives : ReceivesFrom false old new waiting unused reader out packs progress
+    pub all : unused ≡ []
     pub expected : wants_input new ≡ true
 
   -- there was an error
-  pub record ReceivesUntilFault (fault : Fault) (ended : Bool) (old new : Client A) (waiting : List ℕ) (reader out packs progress : Flow) : Type 0 where
-    pub unused : List ℕ
+  pub record ReceivesUntilFault (fault : Fault) (ended : Bool) (old new : Client A) (waiting unused : List ℕ) (reader out packs progress : Flow)
+      : Type 0 where
     pub arrives : ReceivesFrom false old new waiting unused reader out packs progress
     pub announced : fault_of new ≡ Some fault
     pub timely : IsTimely fault.kind ended unused
 
   -- a write or a flush failed; if the client has an error, it came in time
-  pub record ReceivesUntilBroken (ended : Bool) (old new : Client A) (waiting : List ℕ) (reader out packs progress : Flow) : Type 0 where
-    pub unused : List ℕ
+  pub record ReceivesUntilBroken (ended : Bool) (old new : Client A) (waiting unused : List ℕ) (reader out packs progress : Flow) : Type 0 where
     pub arrives : ReceivesFrom true old new waiting unused reader out packs progress
     pub timely : FaultsInTime new ended unused
 
   -- how a response was received
-  abbrev pub ReceivesResponse : Result Window RunFault → Bool → Client A → Client A → List ℕ → List ℕ → Flow → Flow → Flow → Flow → Type 0
-  ReceivesResponse (Ok window) ended old new waiting chunk reader out packs progress =
-      ReceivesWholeResponse window old new waiting chunk reader out packs progress
-  ReceivesResponse (Err ReadFault) ended old new waiting chunk reader out packs progress = ReceivesAllInput old new waiting reader out packs progress
-  ReceivesResponse (Err ReadLimit) ended old new waiting chunk reader out packs progress = ReceivesAllInput old new waiting reader out packs progress
-  ReceivesResponse (Err WriteFault) ended old new waiting chunk reader out packs progress = ReceivesUntilBroken ended old new waiting reader out packs progress
-  ReceivesResponse (Err (Refused fault)) ended old new waiting chunk reader out packs progress =
-      ReceivesUntilFault fault ended old new waiting reader out packs progress
+  abbrev pub ReceivesResponse : Result (Unit {0}) RunFault → Bool → Client A → Client A → List ℕ → List ℕ → Flow → Flow → Flow → Flow → Type 0
+  ReceivesResponse (Ok done) ended old new waiting unused reader out packs progress =
+      ReceivesWholeResponse old new waiting unused reader out packs progress
+  ReceivesResponse (Err ReadFault) ended old new waiting unused reader out packs progress =
+      ReceivesAllInput old new waiting unused reader out packs progress
+  ReceivesResponse (Err ReadLimit) ended old new waiting unused reader out packs progress =
+      ReceivesAllInput old new waiting unused reader out packs progress
+  ReceivesResponse (Err WriteFault) ended old new waiting unused reader out packs progress =
+      ReceivesUntilBroken ended old new waiting unused reader out packs progress
+  ReceivesResponse (Err (Refused fault)) ended old new waiting unused reader out packs progress =
+      ReceivesUntilFault fault ended old new waiting unused reader out packs progress
 
   -- packets that had to be sent were taken and written; all of them, unless a write failed, and then no more were taken after that
   pub record SendsPackets (broken : Bool) (old new : Client A) (writer : Flow) : Type 0 where

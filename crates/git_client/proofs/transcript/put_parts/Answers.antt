@@ -33,10 +33,10 @@ returns g c =
             (
               c.peeled_part.ensures,
               (
-                c.size_part.ensures,
+                c.size_part.ensures.shown,
                 (
-                  c.count_part.ensures,
-                  (c.count_part-2.ensures, tt),
+                  c.count_part.ensures.shown,
+                  (c.count_part-2.ensures.shown, tt),
                 ),
               ),
             ),
