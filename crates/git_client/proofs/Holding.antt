@@ -82,7 +82,7 @@ module _ {before : List ℕ} {parts : List Part} {at : ℕ} {waiting : List ℕ}
       put ∙ ap (λ (l : List ℕ). l ++ codes "\n") some.waits ∙ append_assoc before some.put (codes "\n")
       ∙ ap (λ (l : List ℕ). before ++ l) (sym end_left)
 
--- two pieces, one after the other
+-- two parts, one after the other
 pub two_fit : (before u v all : List ℕ) (space : ℕ) → all ≡ u ++ v → length before + length all ≤ space
     → (length before + length u ≤ space) × (length (before ++ u) + length v ≤ space)
 two_fit before u v all space is fits =
@@ -160,11 +160,11 @@ number_short n within =
     omega (arith, length-append (codes " ") (decimal n), length-decimal-le 20 n (omega arith) (omega (arith, within)) within)
 
 -- the number of bytes in the parts
-abbrev room_of : Parts → ℕ
-room_of p = name_length p.id + text_length p.name + text_length p.text + name_length p.peeled
+abbrev space_of : Parts → ℕ
+space_of p = name_length p.id + text_length p.name + text_length p.text + name_length p.peeled
 
 row_few : (p : Parts) (packed announced : ℕ) → length (size_after p.kind p.size) ≤ 21 → length (count_after p.kind packed) ≤ 21
-    → length (count_after p.kind announced) ≤ 21 → length (line_by (row_of p packed announced)) ≤ 4 * room_of p + 128
+    → length (count_after p.kind announced) ≤ 21 → length (line_by (row_of p packed announced)) ≤ 4 * space_of p + 128
 row_few p packed announced size first second =
     let word = unwrap_or (word_of p.kind) [] in
     let object = object_shown p.kind p.id in
@@ -197,28 +197,28 @@ row_few p packed announced size first second =
 only_one : (value : EventValue) (n : ℕ) → n ≤ parts_length value → n ≤ all_parts_length (value ∷ [])
 only_one value n few = omega (arith, few, sum_by-cons parts_length value [])
 
-reference_room : (id : Option ObjectName) → name_length id ≤ id_length id
-reference_room None = omega arith
-reference_room (Some id) = omega arith
+reference_space : (id : Option ObjectName) → name_length id ≤ id_length id
+reference_space None = omega arith
+reference_space (Some id) = omega arith
 
-room_fits : (event : Event) → room_of (parts_of event) ≤ all_parts_length (values_of event)
-room_fits (Pack bytes) = omega (arith, each_one pack bytes.now (λ byte. refl))
-room_fits (Progress bytes) = omega (arith, each_one progress bytes.now (λ byte. refl))
-room_fits (Event.Capability c) =
-    let few : room_of (parts_of (Event.Capability c)) ≤ parts_length (capability_value c) = omega arith in only_one (capability_value c) _ few
-room_fits (Event.Reference id name target peeled) =
-    let few : room_of (parts_of (Event.Reference id name target peeled)) ≤ parts_length (reference (reference_of (option_copied id) name.now (option_copied target) (option_copied peeled))) = omega (arith, reference_room (option_copied id)) in only_one (reference (reference_of (option_copied id) name.now (option_copied target) (option_copied peeled))) _ few
-room_fits (Event.Ack id) =
-    let few : room_of (parts_of (Event.Ack id)) ≤ parts_length (ack id.now) = omega arith in only_one (ack id.now) _ few
-room_fits (Event.Shallow id) =
-    let few : room_of (parts_of (Event.Shallow id)) ≤ parts_length (shallow id.now) = omega arith in only_one (shallow id.now) _ few
-room_fits (Event.Unshallow id) =
-    let few : room_of (parts_of (Event.Unshallow id)) ≤ parts_length (unshallow id.now) = omega arith in only_one (unshallow id.now) _ few
-room_fits (Event.WantedRef id name) =
-    let few : room_of (parts_of (Event.WantedRef id name)) ≤ parts_length (wanted_ref (wanted_of id.now name.now)) = omega arith in only_one (wanted_ref (wanted_of id.now name.now)) _ few
-room_fits (Event.Info id size) =
-    let few : room_of (parts_of (Event.Info id size)) ≤ parts_length (info (record { id = id.now; size = size })) = omega arith in only_one (info (record { id = id.now; size = size })) _ few
-room_fits event = omega arith
+space_fits : (event : Event) → space_of (parts_of event) ≤ all_parts_length (values_of event)
+space_fits (Pack bytes) = omega (arith, each_one pack bytes.now (λ byte. refl))
+space_fits (Progress bytes) = omega (arith, each_one progress bytes.now (λ byte. refl))
+space_fits (Event.Capability c) =
+    let few : space_of (parts_of (Event.Capability c)) ≤ parts_length (capability_value c) = omega arith in only_one (capability_value c) _ few
+space_fits (Event.Reference id name target peeled) =
+    let few : space_of (parts_of (Event.Reference id name target peeled)) ≤ parts_length (reference (reference_of (option_copied id) name.now (option_copied target) (option_copied peeled))) = omega (arith, reference_space (option_copied id)) in only_one (reference (reference_of (option_copied id) name.now (option_copied target) (option_copied peeled))) _ few
+space_fits (Event.Ack id) =
+    let few : space_of (parts_of (Event.Ack id)) ≤ parts_length (ack id.now) = omega arith in only_one (ack id.now) _ few
+space_fits (Event.Shallow id) =
+    let few : space_of (parts_of (Event.Shallow id)) ≤ parts_length (shallow id.now) = omega arith in only_one (shallow id.now) _ few
+space_fits (Event.Unshallow id) =
+    let few : space_of (parts_of (Event.Unshallow id)) ≤ parts_length (unshallow id.now) = omega arith in only_one (unshallow id.now) _ few
+space_fits (Event.WantedRef id name) =
+    let few : space_of (parts_of (Event.WantedRef id name)) ≤ parts_length (wanted_ref (wanted_of id.now name.now)) = omega arith in only_one (wanted_ref (wanted_of id.now name.now)) _ few
+space_fits (Event.Info id size) =
+    let few : space_of (parts_of (Event.Info id size)) ≤ parts_length (info (record { id = id.now; size = size })) = omega arith in only_one (info (record { id = id.now; size = size })) _ few
+space_fits event = omega arith
 
 line_of_row : (word : Option (List ℕ)) (row line : List ℕ) (space : ℕ) → IsLineOfRow word row line → length row ≤ space → length line ≤ space
 line_of_row None row line space is fits = omega (arith, ap length is)
@@ -230,9 +230,9 @@ pub line_few : (event : Event) (packed announced : ℕ) → length (size_after (
     → all_parts_length (values_of event) ≤ 65516 → length (lines_of (values_of event) packed announced) ≤ 4 * 65516 + 128
 line_few event packed announced size first second few =
     line_of_row (word_of (parts_of event).kind) (line_by (row_of (parts_of event) packed announced)) (lines_of (values_of event) packed announced) _
-    (row_line event packed announced) (omega (arith, row_few (parts_of event) packed announced size first second, room_fits event, few))
+    (row_line event packed announced) (omega (arith, row_few (parts_of event) packed announced size first second, space_fits event, few))
 
--- the line of these pieces is that of the event
+-- these parts make the line of the event
 pub shown_line : (event : Event) (packed announced : ℕ) (p : Parts) → p ≡ parts_of event → (word : Bor (List ℕ)) → option_copied (Some word) ≡ word_of p.kind
     → (object name text peeled size first second : List ℕ) → object ≡ object_shown p.kind p.id → name ≡ shown_after (codes " ") p.name
     → text ≡ shown_after (text_word p.kind) p.text → peeled ≡ peeled_text p.peeled → size ≡ size_after p.kind p.size

@@ -1,7 +1,7 @@
 -- The calls of a receiver, one by one.
 use Rattle.std.proofs.Common.{arith, ◌≡◌, ◌⊎◌, inl, inr, ℕ, zero, suc, ◌+◌, ◌-◌, ◌<◌, ◌≤◌, Bool, true, false, List, [], ◌∷◌, ◌++◌, length, map, take, drop}
 use Rattle.std.proofs.Common.{Option, Some, None, refl, sym, ap, ◌∙◌, subst, append_assoc, append-nil, length-append, length-take-le, drop_at, MutBor}
-use Rattle.std.proofs.lemmas.List.{drop-take}
+use Rattle.std.proofs.lemmas.List.{drop-take, length-take}
 use Rattle.git_loop.specs.InChunks.{LiesIn, bytes_in}
 use Rattle.git_loop.specs.Machines.{GivesPart}
 use Rattle.git_loop.specs.Moves.{Move, closed, gave, used, given_to}
@@ -73,6 +73,15 @@ module _ {A : Type 0} (c : Client A) (chunk : List ℕ) (done count : ℕ) (with
       (sym (pack_unreported (PackEvent bytes) bytes refl))
   event_reports e passing few is ends =
       subst (λ (p : Passing). progress_in p (take few (drop (done + count - few) chunk)) ≡ progress_bytes (values_of e)) (sym is) refl
+
+  -- they are among the bytes used
+  pub event_count : (e : Event) (passing : Passing) (few : ℕ) → PassesOn e passing few → EndsAt e count (left chunk done) c → (passing ≡ Nothing → ⊥)
+      → few ≤ done + count
+  event_count (PackEvent bytes) passing few (is, size) ends other =
+      omega (arith, size, ap length ends.lies ∙ length-append ends.front bytes.now, length-take count (left chunk done))
+  event_count (ProgressEvent bytes) passing few (is, size) ends other =
+      omega (arith, size, ap length ends.lies ∙ length-append ends.front bytes.now, length-take count (left chunk done))
+  event_count e passing few is ends other = absurd (other is)
 
 -- an event that leaves none
 pub quiet_event : (e : Event) (passing : Passing) (few : ℕ) → PassesOn e passing few → passing ≡ Nothing
@@ -156,12 +165,12 @@ module _ {A : Type 0} where
       lends_lines = lends_lines;
     }
 
-    -- nothing was given
+    -- no part went out
     pub stays : (lines : HeldLines) → lines ≡ r.lines → Reaches r [] (lending lines r.passing r.lends_lines)
     stays lines same =
         subst (λ (l : HeldLines). Reaches r [] (lending l r.passing r.lends_lines)) (sym same) (reaches_itself r, refl)
 
-    -- a part was given, which leaves the others where they were
+    -- the next part went out, and the others stay where they were
     gives : (to : ℕ) (bytes : List ℕ) (lines : HeldLines) (passing : Passing) (lends_lines : Bool)
         → ((h : Received A) → (h.lines ++ given_to 0 (gave to bytes ∷ [])) ++ lines.waiting ≡ h.lines ++ r.lines.waiting)
         → ((h : Received A) → (h.packed ++ given_to 1 (gave to bytes ∷ [])) ++ pack_in passing pass ≡ h.packed ++ pack_in r.passing pass)
@@ -174,7 +183,7 @@ module _ {A : Type 0} where
       closed = has.closed;
     }
 
-    -- all of it was given, or nothing
+    -- the whole of it went out, or nothing
     all_given : (before bytes after : List ℕ) → after ≡ [] → (before ++ (bytes ++ [])) ++ after ≡ before ++ bytes
     all_given before bytes after none =
         ap (λ (l : List ℕ). (before ++ l) ++ after) (append-nil bytes) ∙ ap (λ (l : List ℕ). (before ++ bytes) ++ l) none ∙ append-nil (before ++ bytes)

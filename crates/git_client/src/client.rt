@@ -197,10 +197,10 @@ impl<A: Allocator + Copy> Client<A> {
     pub(crate) fn fault(&self) -> Option<Fault>
         ensures { result ≡ fault_of self.now }
     {
-        match self.phase {
-            Phase::Failed(fault) => Some(fault),
-            _ => None,
-        }
+        let Phase::Failed(fault) = self.phase else {
+            return None;
+        };
+        Some(fault)
     }
 
     /// The number of bytes used.

@@ -71,7 +71,7 @@ pub fn converse<R: Read, W: Write, O: Write, P: Write, E: Output, A: Allocator +
     )
 }
 
-/// Runs a client as [`converse`] does, over an input of which no bytes wait.
+/// Runs a client as [`converse`] does, over an input with no bytes waiting.
 fn converse_over<R: Read, W: Write, O: Write, P: Write, E: Output, A: Allocator + Copy>(
     input: &mut OneInput<'_, R>,
     writer: &mut Recorded<W>,

@@ -1,6 +1,6 @@
 //! The outputs of a receiver: the transcript, the pack and the progress, each to a writer of its own.
 
-ghost use Rattle.std.specs.Prelude.{◌≡◌, ◌<◌, ◌||◌, Unit};
+ghost use Rattle.std.specs.Prelude.{◌≡◌, ◌<◌, ◌||◌};
 ghost use Rattle.std.proofs.Common.{refl, ◌∙◌};
 ghost use Rattle.git_pkt.specs.Machine.Recorded.{inner_of, has_failed};
 ghost use Rattle.git_client.specs.Machine.WriterStates.{HaveSameWriters, same_further, same_itself, three_outputs};

@@ -94,19 +94,19 @@ pub(crate) fn hold_event(lines: &mut LineBuffer, event: &Event<'_>, pack: u64, p
     requires few { all_parts_length (values_of event.now) ≤ longest_payload }
     ensures { lines.new.waiting ≡ lines.old.waiting ++ lines_of (values_of event.now) pack progress }
 {
-    let parts = event.parts();
-    let Some(word) = parts.kind.word() else {
+    let held = event.parts();
+    let Some(word) = held.kind.word() else {
         return;
     };
     lines.put_line(&[
         Part::Word(word),
-        object_part(parts.kind, parts.id),
-        text_part(b" ", parts.name),
-        text_part(text_word(parts.kind), parts.text),
-        peeled_part(parts.peeled),
-        size_part(parts.kind, parts.size),
-        count_part(parts.kind, pack),
-        count_part(parts.kind, progress),
+        object_part(held.kind, held.id),
+        text_part(b" ", held.name),
+        text_part(text_word(held.kind), held.text),
+        peeled_part(held.peeled),
+        size_part(held.kind, held.size),
+        count_part(held.kind, pack),
+        count_part(held.kind, progress),
     ]);
 }
 

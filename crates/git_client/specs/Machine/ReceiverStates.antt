@@ -68,13 +68,13 @@ sound_where_expected (Receiving expected) e = refl
 sound_where_expected phase e = absurd (cc)
 
 module _ {A : Type 0} where
-  -- all was given, and the client needs more
+  -- nothing waits to be lent, and the client needs more
   pub record Waits (r : Receiver A) : Type 0 where
     pub expected : wants_input r.client.now ≡ true
     pub all_given : r.lines.waiting ≡ []
     pub all_passed : r.passing ≡ Nothing
 
-  -- all was given, and the client can ask or has failed
+  -- nothing waits to be lent, and the client can ask or has failed
   pub record HasFinished (r : Receiver A) : Type 0 where
     pub over : wants_input r.client.now ≡ false
     pub all_given : r.lines.waiting ≡ []
@@ -115,8 +115,8 @@ module _ {A : Type 0} where
       received_with h (h.used ++ used_of 0 trace) (ended_after 0 h.over trace) (h.lines ++ given_to 0 trace) (h.packed ++ given_to 1 trace)
       (h.reported ++ given_to 2 trace)
 
-  -- The client received the bytes used; of what they give, some was given, and the rest waits. An error is that of truncation only if the
-  -- input has ended, and then there is one.
+  -- The client received the bytes used. What they add to each output went out or waits. The client has an error if the input has ended, and one of
+  -- truncation only then.
   pub record HasReceived (h : Received A) (r : Receiver A) : Type 0 where
     pub bytes : ReceivesBytes false h.client r.client.now h.counts r.counts h.used (held (h.lines ++ r.lines.waiting))
         (held (h.packed ++ pack_in r.passing (bytes_in r.passed))) (held (h.reported ++ progress_in r.passing (bytes_in r.passed)))

@@ -6,7 +6,7 @@ use Rattle.git_client.specs.Machine.Client.{fault_of, wants_input}
 use Rattle.git_client.specs.declared.events.ReceivedGot.TheVariants.{Event as EventGot, Failed}
 use Rattle.git_client.proofs.Phases.{not_expected_where_failed, sound_where_expected}
 use Rattle.git_client.proofs.ReceivedBytes.{nothing_received}
-use Rattle.git_client.proofs.ReceiverCalls.{event_packs, event_reports, quiet_event, received_plain}
+use Rattle.git_client.proofs.ReceiverCalls.{event_count, event_packs, event_reports, quiet_event, received_plain}
 use Rattle.git_client.proofs.ReceivingSteps.{announces_by, received_all, received_event, received_failed_then, received_some, received_sound}
 use Rattle.git_client.proofs.ReceivingSteps.{received_to_question, shown_where_failed, used_within}
 use Rattle.git_client.proofs.receiver.gather.Goals as goal
@@ -23,7 +23,7 @@ loop-used-init g c = record {
 -- ---- the whole chunk was used
 
 pub returns-in-More-clause-some : goal.returns-in-More-clause-some
-returns-in-More-clause-some g c = λ some room. inl (omega (arith, some, c.without_bytes.ensures.used))
+returns-in-More-clause-some g c = λ some space. inl (omega (arith, some, c.without_bytes.ensures.used))
 
 pub returns-in-More-clause-received : goal.returns-in-More-clause-received
 returns-in-More-clause-received g c =
@@ -49,7 +49,7 @@ returns-in-More-clause-shown g c = λ fault failed.
 -- ---- an error
 
 pub returns-in-Failed-clause-some : goal.returns-in-Failed-clause-some
-returns-in-Failed-clause-some g c = λ some room.
+returns-in-Failed-clause-some g c = λ some space.
     let waits : wants_input c.loop-used.client ≡ true = sym c.wants_input.ensures.value ∙ c.if-wants_input.true in
     let so_far = c.loop-used.invariant in
     let feeds = c.feed-received.follows.holds-at-none.0 in
@@ -106,10 +106,21 @@ loop-used-preserved g c =
     }
 
 pub returns-in_default-clause-some : goal.returns-in_default-clause-some
-returns-in_default-clause-some g c = λ some room.
+returns-in_default-clause-some g c = λ some space.
     let waits : wants_input c.loop-used.client ≡ true = sym c.wants_input.ensures.value ∙ c.if-wants_input.true in
     let so_far = c.loop-used.invariant in
     inl (received_some c.args.chunk.now c.loop-used.used waits so_far.within so_far.received c.feed-received.follows.holds-at-none.0 _ c.in-Event.is)
+
+pub returns-in_default-clause-count : goal.returns-in_default-clause-count
+returns-in_default-clause-count g c =
+    let waits : wants_input c.loop-used.client ≡ true = sym c.wants_input.ensures.value ∙ c.if-wants_input.true in
+    let so_far = c.loop-used.invariant in
+    let feeds = c.feed-received.follows.holds-at-none.0 in
+    let fits = used_within c.args.chunk.now c.loop-used.used waits so_far.within so_far.received feeds c.feed-received.ensures.used in
+    let ends =
+    (announces_by c.args.chunk.now c.loop-used.used waits so_far.within so_far.received feeds (EventGot c.in-Event.event) c.in-Event.is).1 in
+    event_count _ c.args.chunk.now c.loop-used.used c.feed-received.result.used so_far.within fits c.in-Event.event _ _
+    c.take_event-passes.ensures.passes ends c.in_default.not-Nothing
 
 pub returns-in_default-clause-received : goal.returns-in_default-clause-received
 returns-in_default-clause-received g c =

@@ -1,8 +1,16 @@
 use Rattle.std.proofs.Common.{rules, arith, refl, sym}
+use Rattle.std.proofs.lemmas.Bool.{or_from}
 use Rattle.git_loop.specs.OneStreams.{reader_of, waiting_in}
 use Rattle.git_pkt.specs.Machine.Recorded.{inner_of}
+use Rattle.git_client.specs.Machine.ReceiverStates.{passes_none}
 use Rattle.git_client.proofs.ReceiverRuns.{answers_at, answers_refused, answers_whole, fails_at, fails_so, never_ended, shown_at}
 use Rattle.git_client.proofs.receiving.run_receiver.Goals as goal
+
+pub run_streams-requires-clause-sound_outputs : goal.run_streams-requires-clause-sound_outputs
+run_streams-requires-clause-sound_outputs g c = or_from _ _ c.requires.sound_out (or_from _ _ c.requires.sound_pack c.requires.sound_progress)
+
+pub run_streams-requires-clause-holds : goal.run_streams-requires-clause-holds
+run_streams-requires-clause-holds g c = passes_none c.args.receiver.now c.requires.waits
 
 pub returns-in_err-run_streams-clause-useful : goal.returns-in_err-run_streams-clause-useful
 returns-in_err-run_streams-clause-useful g c =
