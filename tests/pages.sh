@@ -105,6 +105,12 @@ case_each_link_to_a_heading_of_a_page_leads_there() {
     done < <(pages)
 }
 
+# No merge was committed with a conflict in it.
+case_no_file_has_the_mark_of_a_conflict() {
+    grep -r -l -E -I --exclude-dir=out --exclude-dir=.git '^(<<<<<<<|>>>>>>>) ' "$top" > conflicts || true
+    [ ! -s conflicts ] || differs 'files with a conflict' conflicts
+}
+
 case_each_source_states_what_it_is_about_and_imports_what_it_may() {
     run "$top/tests/sources.py" --check
     expect_status 0
