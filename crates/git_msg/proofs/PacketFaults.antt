@@ -10,7 +10,10 @@ use Rattle.git_msg.specs.declared.offers.Offer.{Offer}
 use Rattle.git_msg.specs.declared.arguments.Command.{Command}
 use Rattle.git_msg.specs.declared.capability_key.Key.{Key}
 use Rattle.git_msg.specs.declared.capability_key.Key.TheVariants.{CommandKey, AgentKey}
-use Rattle.git_msg.specs.Arguments.{Word, Shape, flag_word, row, refusal_of, IsArgumentFault, IsRowFault}
+use Rattle.git_msg.specs.declared.words.Word.TheVariants.{Flag as of_flag, Text as of_text}
+use Rattle.git_msg.specs.declared.words.TextWord.{TextWord}
+use Rattle.git_msg.specs.Arguments.{refusal_of, IsArgumentFault}
+use Rattle.git_msg.specs.declared.words.Word.{Word}
 use Rattle.git_msg.specs.Asked.{Asked, ls_refs, fetch, object_info}
 use Rattle.git_msg.specs.Checks.{Check, Refuses}
 use Rattle.git_msg.specs.Lines.{Line, argument_checks, capability_checks, commands_of, end_checks, flush_checks_in, has_format}
@@ -39,9 +42,10 @@ not_by_itself OutOfMemory strange = tt
 not_by_itself kind strange = strange
 
 -- a refused value has an error of packets
-by_itself : (shape : Shape) → NotByItself (refusal_of shape) → ⊥
-by_itself flag_word h = h
-by_itself shape h = h
+by_itself : (word : Word) → NotByItself (refusal_of word) → ⊥
+by_itself (of_flag flag) h = h
+by_itself (of_text TextWord.WantRef) h = h
+by_itself word h = h
 
 -- none of the checks refuses with this error
 AllQuiet : Kind → List Check → Type 0
@@ -69,13 +73,10 @@ module _ (kind : Kind) (strange : NotByItself kind) where
   unfolding AllQuiet
   quiet_part offer commands content = ((λ r. subst NotByItself r.1 strange), ((λ r. subst NotByItself r.1 strange), tt))
 
-  quiet_row : (c : Command) (format : Format) (word : Word) (text : List ℕ) → IsRowFault c format word text kind → ⊥
-  quiet_row c format word text fault = by_itself (row word).shape (subst NotByItself fault.named strange)
-
   quiet_value : (c : Command) (offer : Offer) (text : List ℕ) → IsArgumentFault c offer text kind → ⊥
-  quiet_value c offer text (inl fault) = subst NotByItself fault.1 strange
-  quiet_value c offer text (inr (inl fault)) = quiet_row c offer.format fault.0 text fault.1
-  quiet_value c offer text (inr (inr fault)) = subst NotByItself fault.1 strange
+  quiet_value c offer text (inl (inl fault)) = subst NotByItself fault.1 strange
+  quiet_value c offer text (inl (inr fault)) = by_itself fault.word (subst NotByItself fault.named strange)
+  quiet_value c offer text (inr fault) = subst NotByItself fault.1 strange
 
   quiet_text : (c : Command) (offer : Offer) (text : List ℕ) → AllQuiet kind (text_checks c offer text)
   unfolding AllQuiet

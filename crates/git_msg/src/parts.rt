@@ -3,8 +3,11 @@ ghost use Rattle.std.specs.Prelude.{◌≡◌, ◌≢◌, ◌+◌, ◌*◌, ◌^
 ghost use Rattle.std.specs.Prelude.{MatchResult};
 ghost use Rattle.std.specs.Prelude.{true, false, length, map, slice_get, slice_index, All};
 ghost use Rattle.std.specs.Option.{option_copied};
-ghost use Rattle.git_msg.specs.Arguments.{Arg, IsNameIn, Word, alone, of_flag, with_id, with_number, with_text};
+ghost use Rattle.git_msg.specs.Arguments.{Arg, IsNameIn, alone, with_id, with_number, with_text};
 ghost use Rattle.git_msg.specs.declared.flags.Flag.{Flag};
+ghost use Rattle.git_msg.specs.declared.words.NumberWord.{NumberWord};
+ghost use Rattle.git_msg.specs.declared.words.ObjectWord.{ObjectWord};
+ghost use Rattle.git_msg.specs.declared.words.TextWord.{TextWord};
 ghost use Rattle.git_msg.specs.Asked.{where_asked, where_given};
 ghost use Rattle.std.proofs.Props.{props};
 ghost use Rattle.std.specs.List.{dedup};
@@ -55,9 +58,9 @@ impl<A: Allocator + Copy> Texts<A> {
     /// The text whose argument has this index, if one of these has it; otherwise the index after them.
     pub(crate) fn at(&self, i: usize) -> Result<&[u8], usize>
         ensures { MatchResult result
-            (λ text. (word : Word) (others : List Arg)
+            (λ text. (word : TextWord) (others : List Arg)
             → slice_get (map (with_text word) (texts_of self.now) ++ others) i ≡ Some (with_text word text.now))
-            (λ next. (word : Word) (others : List Arg) → slice_get (map (with_text word) (texts_of self.now) ++ others) i ≡ slice_get others next) }
+            (λ next. (word : TextWord) (others : List Arg) → slice_get (map (with_text word) (texts_of self.now) ++ others) i ≡ slice_get others next) }
     {
         match self.get(i) {
             Some(text) => Ok(text),
@@ -238,7 +241,7 @@ pub(crate) fn check_id(format: Format, id: &Oid) -> Result<(), Kind>
 /// The index after a flag's argument, if that is among the arguments; none if the index is its own.
 pub(crate) fn past_flag(set: bool, i: usize) -> Option<usize>
     ensures { MatchOption result
-        ((flag : Flag) (others : List Arg) → slice_get (where_asked set flag ++ others) i ≡ Some (alone (of_flag flag)))
+        ((flag : Flag) (others : List Arg) → slice_get (where_asked set flag ++ others) i ≡ Some (alone flag))
         (λ next. (flag : Flag) (others : List Arg) → slice_get (where_asked set flag ++ others) i ≡ slice_get others next) }
 {
     if !set {
@@ -253,8 +256,8 @@ pub(crate) fn past_flag(set: bool, i: usize) -> Option<usize>
 /// The object name whose argument has this index, if one of these has it; otherwise the index after them.
 pub(crate) fn id_at(ids: &[Oid], i: usize) -> Result<&Oid, usize>
     ensures { MatchResult result
-        (λ id. (word : Word) (others : List Arg) → slice_get (map (with_id word) ids.now ++ others) i ≡ Some (with_id word id.now))
-        (λ next. (word : Word) (others : List Arg) → slice_get (map (with_id word) ids.now ++ others) i ≡ slice_get others next) }
+        (λ id. (word : ObjectWord) (others : List Arg) → slice_get (map (with_id word) ids.now ++ others) i ≡ Some (with_id word id.now))
+        (λ next. (word : ObjectWord) (others : List Arg) → slice_get (map (with_id word) ids.now ++ others) i ≡ slice_get others next) }
 {
     match ids.get(i) {
         Some(id) => Ok(id),
@@ -265,8 +268,8 @@ pub(crate) fn id_at(ids: &[Oid], i: usize) -> Result<&Oid, usize>
 /// The number whose argument has this index, if there is a number; otherwise the index after it.
 pub(crate) fn number_at(number: Option<u64>, i: usize) -> Result<u64, usize>
     ensures { MatchResult result
-        (λ own. (word : Word) (others : List Arg) → slice_get (where_given word number ++ others) i ≡ Some (with_number word own))
-        (λ next. (word : Word) (others : List Arg) → slice_get (where_given word number ++ others) i ≡ slice_get others next) }
+        (λ own. (word : NumberWord) (others : List Arg) → slice_get (where_given word number ++ others) i ≡ Some (with_number word own))
+        (λ next. (word : NumberWord) (others : List Arg) → slice_get (where_given word number ++ others) i ≡ slice_get others next) }
 {
     match number {
         None => Err(i),

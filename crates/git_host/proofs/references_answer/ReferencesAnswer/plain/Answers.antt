@@ -9,6 +9,7 @@ use Rattle.git_host.proofs.PlainLines.{plain_holds, plain_sound}
 use Rattle.git_host.proofs.ReferencesMoves.{after_hidden, after_shown, entries_of, head_allowed, ordered_alike, shown_alike}
 use Rattle.git_host.proofs.ReferencesMoves.{stands_after, unsound_head, unsound_order}
 use Rattle.git_host.proofs.references_answer.ReferencesAnswer.plain.Goals as goal
+use Rattle.git_msg.specs.Asked.{peel_in, symrefs_in}
 
 pub returns-then-is_second_head : goal.returns-then-is_second_head
 returns-then-is_second_head g c =
@@ -104,13 +105,14 @@ returns g c =
               (head_allowed old.place old.format q t (last_name old.last) given name c.in_default-place.not-Whole
               (sym c.is_second_head.ensures ∙ c.if-is_second_head.false) h.stands) in
               let is_last : last_name c.keep.new.self ≡ Some name = search (rules, tests) in
-              let packet = reference_packet q.symrefs q.peel entry in (
+              let packet = reference_packet (symrefs_in q) (peel_in q) entry in (
                 packet,
-                plain_holds q.symrefs q.peel id name named,
+                plain_holds (symrefs_in q) (peel_in q) id name named,
                 record {
                   alike = alike;
                   stands = subst
-                      (λ (last : Option (List ℕ)). StandsAtReferences c.after_reference-self.result old.format q (with_ref entry t) last (given ++ packet ∷ []))
+                      (λ (last : Option (List ℕ)). StandsAtReferences c.after_reference-self.result old.format q (with_ref entry t) last
+                      (given ++ packet ∷ []))
                       (sym is_last)
                       (subst (λ (p : ReferencesPlace). StandsAtReferences p old.format q (with_ref entry t) (Some name) (given ++ packet ∷ []))
                       (sym c.after_reference-self.ensures)

@@ -1,42 +1,8 @@
-use Rattle.std.proofs.Common.{rules, arith, ap, refl, sym, length-append, ◌+◌, ◌*◌, length}
-use Rattle.git_msg.specs.Arguments.{shown, stored_in}
-use Rattle.git_msg.specs.Kept.{KeepsArgument}
-use Rattle.std.proofs.lemmas.Result.{err_from_is_err_and}
-use Rattle.git_msg.proofs.RefusedLists.{refused_for}
-use Rattle.git_msg.proofs.KeptBytes.{stays_covered}
-use Rattle.git_msg.proofs.HeldFlags.{object_info_kept, kept_by_object_info}
-use Rattle.git_msg.proofs.object_info.ObjectInfo.keep.Given as given
+use Rattle.git_msg.specs.Arguments.{shown}
+use Rattle.git_msg.proofs.KeptBytes.{stay_kept}
 use Rattle.git_msg.proofs.object_info.ObjectInfo.keep.Goals as goal
-use Rattle.git_msg.proofs.object_info.ObjectInfo.keep.Goals.{Joined-argument, in-Flag, in-ObjectId+in_ok-keep_id-in-ObjectId}
 
--- the argument is kept
-value_kept : (g : given.Over) (c : Joined-argument g) → KeepsArgument (object_info_kept c.self.inside) (shown c.args.argument.now) c.args.text_length
-    (object_info_kept (record c.match-argument.self-inside { budget = c.charge.new.self }))
-value_kept g c = elim c.match-argument.branch [
-  | in-Flag w ↦ rw w.self-inside-is (record {
-    asked = kept_by_object_info w.in-Flag.flag c.self.inside w.add.new.self _ (ap shown w.in-Flag.is) w.add.ensures;
-    kept = search rules;
-    stored = omega (arith, ap stored_in (ap shown w.in-Flag.is));
-    command = refl;
-    format = refl;
-    limit = search rules;
-  })
-  | in-ObjectId+in_ok-keep_id-in-ObjectId w ↦ rw w.self-inside-is (search (rules, length-append))
-]
-
-pub invariant_of-self-2 : goal.invariant_of-self-2
-invariant_of-self-2 g c =
-    stays_covered (object_info_kept c.self.inside) _ _ _ c.self.invariant (rw (sym c.self.view_is) at c.requires.value) c.requires.counted
-    (value_kept g (goal.at.invariant_of-self-2 g c).Joined-argument)
-
-pub returns-clause-kept : goal.returns-clause-kept
-returns-clause-kept g c = rw (← c.self.view_is) (value_kept g (goal.at.returns-clause-kept g c).Joined-argument)
-
-pub returns-in_err-keep_id-in-ObjectId-clause-memory : goal.returns-in_err-keep_id-in-ObjectId-clause-memory
-returns-in_err-keep_id-in-ObjectId-clause-memory g c =
-    let value = rw (sym c.self.view_is) at c.requires.value in
-    let p = err_from_is_err_and c.from_residual-in_err-keep_id-in-ObjectId.result c.from_residual-in_err-keep_id-in-ObjectId.ensures.1 in
-    rw (p.1, p.2, ← c.self.view_is)
-    (λ name. refused_for g.A.Memory.refuses (object_info_kept c.self.inside) (shown c.args.argument.now) c.args.text_length
-    (33 * (length c.self.inside.oids.items + 1)) c.self.invariant value.1 c.requires.counted c.in_ok-charge.ensures.sides
-    (omega (arith, ap stored_in (ap shown c.in-ObjectId.is))) c.in_err-keep_id-in-ObjectId.ensures.memory)
+pub invariant_of-self : goal.invariant_of-self
+invariant_of-self g c =
+    stay_kept _ c.keep.result c.self.inside.arguments _ (shown c.args.argument.now) c.args.text_length c.self.invariant c.requires.value.0
+    c.keep.ensures.kept c.keep.ensures.unchanged

@@ -1,7 +1,8 @@
-use Rattle.std.proofs.Common.{rules, sym, ◌∙◌}
+use Rattle.std.proofs.Common.{inl, inr, refl, rules, sym, ◌∙◌}
 use Rattle.std.proofs.lemmas.Result.{err_from_is_err_and}
-use Rattle.git_msg.proofs.KeptArguments.{as_written}
-use Rattle.git_msg.proofs.StepFacts.{unread, kept, unkept, completed, end_refused}
+use Rattle.git_msg.proofs.AskedValues.{conveys_value}
+use Rattle.git_msg.proofs.FurtherArguments.{as_written}
+use Rattle.git_msg.proofs.StepFacts.{unread, kept, unkept, completed, end_refused, strange}
 use Rattle.git_msg.proofs.reader.RequestReader.take_argument.Goals as goal
 
 pub returns-in-Err-clause-goes_on : goal.returns-in-Err-clause-goes_on
@@ -10,8 +11,10 @@ returns-in-Err-clause-goes_on g c =
     rw c.in-Payload.is
     (unread _ c.args.self.now c.in-Payload.payload.now c.in-Err.kind c.requires (rw (c.command.ensures, c.text-text.ensures) at h))
 
-pub push-requires-clause-counted : goal.push-requires-clause-counted
-push-requires-clause-counted g c = as_written c.args.self.now.offer.format _ _ c.in-Ok.ensures.argument.reads.is_argument.1
+pub push-requires : goal.push-requires
+push-requires g c =
+    let counted = as_written c.args.self.now.offer.format _ _ c.in-Ok.ensures.argument.reads.is_argument.1 in
+    search (rules, conveys_value)
 
 pub returns-in_ok-push-in-Payload-clause-goes_on : goal.returns-in_ok-push-in-Payload-clause-goes_on
 returns-in_ok-push-in-Payload-clause-goes_on g c =
@@ -31,6 +34,12 @@ returns-in_err-push-in-Payload-clause-goes_on g c =
     (unkept _ c.args.self.now c.in-Payload.payload.now _ c.requires (rw (c.command.ensures, c.text-text.ensures) at h)
     (sym c.refusal_of.ensures.value ∙ c.in_default.is) c.push.new.self _ c.in_err-push-in-Payload.field-0.0 (rw c.text-text.ensures at why)
     c.in_err-push-in-Payload.ensures.unchanged)
+
+pub returns-in-Delim-clause-goes_on : goal.returns-in-Delim-clause-goes_on
+returns-in-Delim-clause-goes_on g c = rw c.in-Delim.is (strange _ c.args.self.now _ c.requires (inl refl))
+
+pub returns-in-RespEnd-clause-goes_on : goal.returns-in-RespEnd-clause-goes_on
+returns-in-RespEnd-clause-goes_on g c = rw c.in-RespEnd.is (strange _ c.args.self.now _ c.requires (inr refl))
 
 pub returns-in_ok-check_end-in-Flush-clause-goes_on : goal.returns-in_ok-check_end-in-Flush-clause-goes_on
 returns-in_ok-check_end-in-Flush-clause-goes_on g c = search (rules, completed)
