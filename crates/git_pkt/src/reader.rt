@@ -158,6 +158,7 @@ impl PacketReader {
 
     /// Reads on. It returns after one packet, or when the whole chunk is used, or at the first fault, which it reports with
     /// the byte that shows it. Call it again with the bytes that it did not use.
+    #[inline(always)]
     pub fn feed<'a>(&'a mut self, chunk: &'a [u8], steps: &mut Steps) -> Fed<'a>
         requires gathers { passes_of self.old ≡ false }
         ensures* after { sem 𝓛 (Rests the_row self.entry (λ new. Feeds self.old chunk.now result new)) }
