@@ -61,8 +61,8 @@ impl Counts {
 fn request(alloc: Global) -> Result<Request<Global>, Kind> {
     let wanted = Oid::read(Format::Sha1, WANTED, &mut Steps::new())?;
     let mut request = Request::new(alloc, Command::Fetch, Format::Sha1, Limits::DEFAULT);
-    request.add(Argument::Object(ObjectWord::Want, wanted))?;
-    request.add(Argument::Flag(Flag::Done))?;
+    request.add(&Argument::Object(ObjectWord::Want, wanted))?;
+    request.add(&Argument::Flag(Flag::Done))?;
     Ok(request)
 }
 

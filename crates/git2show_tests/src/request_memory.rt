@@ -24,7 +24,7 @@ fn offer() -> Offer {
 fn kept_within(rt: &impl Abort, alloc: Global, size: usize) -> Result<u32, AllocError> {
     let heap = LocalHeap::new(alloc, size)?;
     let mut request = new_request(&heap, Command::LsRefs, Limits { args: 1000 });
-    expect(rt, &request.add(Argument::Flag(Flag::Symrefs)), &Ok(()));
+    expect(rt, &request.add(&Argument::Flag(Flag::Symrefs)), &Ok(()));
     let mut kept = 0u32;
     for prefix in [b"refs/heads/".as_slice(), b"refs/tags/".as_slice()] {
         let before = bytes_kept(&request);
@@ -74,7 +74,7 @@ const FILTERS: [&[u8]; 2] = [b"blob:limit=8", b"tree:100"];
 fn filters_within(rt: &impl Abort, alloc: Global, size: usize) -> Result<u32, AllocError> {
     let heap = LocalHeap::new(alloc, size)?;
     let mut request = new_request(&heap, Command::Fetch, Limits { args: 1000 });
-    expect(rt, &request.add(Argument::Flag(Flag::WaitForDone)), &Ok(()));
+    expect(rt, &request.add(&Argument::Flag(Flag::WaitForDone)), &Ok(()));
     let mut kept = 0u32;
     for spec in FILTERS {
         let before = bytes_kept(&request);
@@ -155,7 +155,7 @@ fn wants_within(rt: &impl Abort, alloc: Global, size: usize) -> Result<usize, Al
     let heap = LocalHeap::new(alloc, size)?;
     let mut request = new_request(&heap, Command::Fetch, Limits { args: 1000 });
     let id = object(rt, Format::Sha1, b'a');
-    expect(rt, &request.add(Argument::Flag(Flag::Done)), &Ok(()));
+    expect(rt, &request.add(&Argument::Flag(Flag::Done)), &Ok(()));
     for kept in 0..MANY {
         let before = bytes_kept(&request);
         let added = add_want(&mut request, id);
@@ -242,8 +242,8 @@ fn a_reader_without_memory_refuses_the_first_prefix(rt: HostRuntime) -> Result<(
 fn a_request_of_flags_takes_no_memory(rt: HostRuntime) -> Result<(), AllocError> {
     let heap = LocalHeap::new(rt.alloc(), 0)?;
     let mut request = new_request(&heap, Command::LsRefs, Limits { args: 1000 });
-    expect(&rt, &request.add(Argument::Flag(Flag::Peel)), &Ok(()));
-    expect(&rt, &request.add(Argument::Flag(Flag::Symrefs)), &Ok(()));
+    expect(&rt, &request.add(&Argument::Flag(Flag::Peel)), &Ok(()));
+    expect(&rt, &request.add(&Argument::Flag(Flag::Symrefs)), &Ok(()));
     expect(&rt, &bytes_kept(&request), &11);
     let added = add_prefix(&mut request, b"");
     expect(&rt, &added, &Err(Kind::OutOfMemory));

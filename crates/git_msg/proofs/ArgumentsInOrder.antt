@@ -10,6 +10,10 @@ pub same_command : (asked : Asked) (arg : Arg) → command_asked (with_argument 
 same_command (ls_refs q) arg = refl
 same_command asked arg = refl
 
+pub command_for : (c : Command) (args : List Arg) → command_asked (asked_for c args) ≡ c
+command_for LsRefs args = refl
+command_for c args = refl
+
 pub asked_snoc : (c : Command) (args : List Arg) (arg : Arg) → asked_by c (args ++ arg ∷ []) ≡ with_argument (asked_by c args) arg
 asked_snoc LsRefs args arg = ap ls_refs (one_behind args arg)
 asked_snoc c args arg = ap (asked_for c) (one_behind args arg)

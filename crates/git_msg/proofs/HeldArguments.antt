@@ -1,7 +1,8 @@
 -- The lists that are stored of a request are its arguments in their order, and looking up in these finds what is stored.
 use Rattle.std.proofs.Common.{arith, ◌≡◌, ℕ, ◌+◌, ◌<◌, ◌≤◌, subst, ◌==◌, ◌||◌, Bool, true, false, Option, Some, None, List, [], ◌∷◌, ◌++◌, map, refl, sym}
-use Rattle.std.proofs.Common.{ap, inl, inr, ◌∙◌, add-one, drop, drop-cons, get_or, length, if◌then◌else◌}
-use Rattle.std.specs.Prelude.{All, Vec, set, sum_by}
+use Rattle.std.proofs.Common.{ap, append-nil, inl, inr, ◌∙◌, add-one, drop, drop-cons, get_or, length, if◌then◌else◌}
+use Rattle.std.specs.Prelude.{All, Vec, set, slice_get, sum_by}
+use Rattle.std.proofs.Common.{◌-◌, suc, zero}
 use Rattle.std.specs.List.{filter_map, flat_map}
 use Rattle.std.proofs.lemmas.Bool.{cases_eq}
 use Rattle.std.proofs.lemmas.Grind.{common_steps, get_or-set_at}
@@ -13,6 +14,7 @@ use Rattle.git_names.specs.ObjectName.{ObjectName}
 use Rattle.git_msg.specs.declared.flags.Flag.{Flag}
 use Rattle.git_msg.specs.declared.flags.FlagSet.{FlagSet}
 use Rattle.git_msg.specs.declared.lists.ArgumentLists.{ArgumentLists}
+use Rattle.git_msg.specs.declared.parts.Lists.{Lists}
 use Rattle.git_msg.specs.declared.parts.Texts.{Texts}
 use Rattle.git_msg.specs.declared.words.Word.{Word}
 use Rattle.git_msg.specs.declared.words.Word.TheVariants.{Flag as of_flag, Object as of_object, Text as of_text, Number as of_number}
@@ -22,11 +24,14 @@ use Rattle.git_msg.specs.declared.words.NumberWord.{NumberWord}
 use Rattle.git_msg.specs.Arguments.{Arg, alone, with_id, with_number, with_text, words}
 use Rattle.git_msg.specs.Asked.{is_word, is_of, of_word, last_counts, all_or_last, AreInOrder, flag_among, value_in}
 use Rattle.git_msg.specs.Asked.{id_of, ids, number, number_of, text_of, texts, where_asked, where_given, with_one}
-use Rattle.git_msg.specs.Machine.ArgumentLists.{held, held_at, ids_at, is_held, number_at, number_place, object_place, place_of, text_place, texts_at}
+use Rattle.git_msg.specs.Machine.ArgumentLists.{held, held_at, ids_at, is_held, number_at, number_place, object_place, place_of}
+use Rattle.git_msg.specs.Machine.PlacedLists.{items_at, items_in, lists_of}
+use Rattle.git_msg.specs.Machine.TextPools.{text_place, where_same}
 use Rattle.git_msg.specs.Machine.HeldTexts.{texts_of}
 use Rattle.git_msg.specs.Prefixes.{IsOrdered, ShowAlike, is_shown}
 use Rattle.git_msg.specs.Texts.{last_of}
 use Rattle.git_msg.proofs.HeadWords.{itself, same_word}
+use Rattle.git_msg.proofs.PlacedLists.{nothing_at, replaced}
 use Rattle.git_msg.proofs.WrittenArguments.{added, all_flat, any_of, by_value, found, in_order, is_some, same_lists, with_one_more}
 
 -- words are the same just where their places are
@@ -96,41 +101,30 @@ all_there : {X : Type 0} (value : Arg → Option X) (make : X → Arg) → ((x :
 all_there value make is [] = refl
 all_there value make is (x ∷ xs) = rw (is x, all_there value make is xs) refl
 
--- one item of a list is replaced
-replaced : {X : Type 0} (xs : List X) (i j : ℕ) (x d : X) → i < length xs → get_or (set xs i x) j d ≡ (if j == i then x else get_or xs j d)
-replaced xs i j x d within = elim (cases_eq j i) [
-  | inl same ↦ grind (arith, common_steps, same, get_or-set_at xs i j x d same within)
-  | inr other ↦ grind (arith, common_steps, other, get_or-set_other xs i j x d other)
-]
+-- an item of two lists, one behind the other
+get_front : {X : Type 0} (xs ys : List X) (i : ℕ) → i < length xs → slice_get (xs ++ ys) i ≡ slice_get xs i
+get_front [] ys i below = absurd (omega (arith, below))
+get_front (x ∷ xs) ys zero below = refl
+get_front (x ∷ xs) ys (suc i) below = get_front xs ys i (omega (arith, below))
 
--- so one of several lists of values, each at the place of its word, has one more
-module _ {W L X : Type 0} (items : L → List X) (place : W → ℕ) (is_same : W → W → Bool) (make : W → X → Arg)
-    (place_is : (a b : W) → (place a == place b) ≡ is_same a b) (same : (a b : W) → is_same a b ≡ true → a ≡ b) where
-  longer : (old new : List X) (word of : W) (x : X) (is : Bool) → (is ≡ true → (of ≡ word) × (new ≡ old ++ x ∷ []))
-      → map (make of) (if is then new else old) ≡ (if is then map (make of) old ++ make word x ∷ [] else map (make of) old)
-  longer old new word of x true h = let both = h refl in rw (both.0, both.1) (map-append (make word) old (x ∷ []))
-  longer old new word of x false h = refl
+get_behind : {X : Type 0} (xs ys : List X) (i : ℕ) → length xs ≤ i → slice_get (xs ++ ys) i ≡ slice_get ys (i - length xs)
+get_behind [] ys i past = let same : i ≡ i - 0 = omega arith in ap (slice_get ys) same
+get_behind (x ∷ xs) ys zero past = absurd (omega (arith, past))
+get_behind (x ∷ xs) ys (suc i) past =
+    let same : i - length xs ≡ suc i - length (x ∷ xs) = omega arith in get_behind xs ys i (omega (arith, past)) ∙ ap (slice_get ys) same
 
-  one_longer : (ls : List L) (at : ℕ) (old new : L) (word of : W) (x : X) → at ≡ place word → at < length ls → old ≡ get_or ls at old
-      → items new ≡ items old ++ x ∷ []
-      → map (make of) (get_or (map items (set ls at new)) (place of) [])
-      ≡ (if is_same of word then map (make of) (get_or (map items ls) (place of) []) ++ make word x ∷ [] else map (make of) (get_or (map items ls) (place of) []))
-  one_longer ls at old new word of x there within own is =
-      let was : get_or (map items ls) at [] ≡ items old = get_or-map items ls at old [] within ∙ ap items (sym own) in
-      let now : get_or (map items (set ls at new)) (place of) [] ≡ (if place of == at then items new else get_or (map items ls) (place of) []) =
-      ap (λ (l : List (List X)). get_or l (place of) []) (map-set items ls at new)
-      ∙ replaced (map items ls) at (place of) (items new) [] (omega (arith, within, length-map ls items)) in
-      let test : (place of == at) ≡ is_same of word = ap (λ (n : ℕ). place of == n) there ∙ place_is of word in
-      ap (map (make of)) (now ∙ ap (λ (b : Bool). if b then items new else get_or (map items ls) (place of) []) test)
-      ∙ longer (get_or (map items ls) (place of) []) (items new) word of x (is_same of word)
-      (λ e. let here : place of ≡ at = ap place (same of word e) ∙ sym there in
-      (same of word e, is ∙ ap (λ (l : List X). l ++ x ∷ []) (sym was ∙ ap (λ (n : ℕ). get_or (map items ls) n []) (sym here))))
+-- the arguments of a word's values, with one value more for one word
+module _ {W X : Type 0} (make : W → X → Arg) where
+  one_made : (old : List X) (one of : W) (x : X) (is : Bool) → (is ≡ true → of ≡ one)
+      → map (make of) (old ++ (if is then x ∷ [] else [])) ≡ (if is then map (make of) old ++ make one x ∷ [] else map (make of) old)
+  one_made old one of x true same = rw (same refl) (map-append (make one) old (x ∷ []))
+  one_made old one of x false same = ap (map (make of)) (append-nil old)
 
 module _ {A : Type 0} (q : ArgumentLists A) where
   held_own : (word : Word) → All (λ arg. is_of word arg ≡ true) (held_at q word)
   held_own (of_flag flag) = own_flag (is_held q.flags flag) flag
   held_own (of_object word) = all_made (of_object word) (with_id word) (ids_at q word) (λ id. itself (of_object word))
-  held_own (of_text word) = all_made (of_text word) (with_text word) (texts_at q word) (λ text. itself (of_text word))
+  held_own (of_text word) = all_made (of_text word) (with_text word) (texts_of q.texts word) (λ text. itself (of_text word))
   held_own (of_number word) = own_number word (number_at q word)
 
   held_count : (word : Word) → all_or_last (last_counts word) (held_at q word) ≡ held_at q word
@@ -150,8 +144,8 @@ module _ {A : Type 0} (q : ArgumentLists A) where
   pub ids_are : (word : ObjectWord) → ids word (held q) ≡ ids_at q word
   ids_are word = values_are id_of (of_object word) ∙ all_there id_of (with_id word) (λ id. refl) (ids_at q word)
 
-  pub texts_are : (word : TextWord) → texts word (held q) ≡ texts_at q word
-  texts_are word = values_are text_of (of_text word) ∙ all_there text_of (with_text word) (λ text. refl) (texts_at q word)
+  pub texts_are : (word : TextWord) → texts word (held q) ≡ texts_of q.texts word
+  texts_are word = values_are text_of (of_text word) ∙ all_there text_of (with_text word) (λ text. refl) (texts_of q.texts word)
 
   pub number_is : (word : NumberWord) → number word (held q) ≡ number_at q word
   number_is word = ap last_of (values_are number_of (of_number word)) ∙ some_number word (number_at q word)
@@ -184,47 +178,53 @@ module _ {A : Type 0} (q : ArgumentLists A) where
           ∙ set_flag of flag (is_word (of_flag of) (of_flag flag)) (is_held q.flags of) (same_flag of flag)
       adds word = refl
 
-  pub adds_id : (at : ℕ) (x new : Vec ObjectName A) (word : ObjectWord) (id : ObjectName) → at ≡ object_place word → at < length q.objects
-      → x ≡ get_or q.objects at x → new.items ≡ x.items ++ id ∷ [] → held (record q { objects = set q.objects at new }) ≡ with_one (held q) (with_id word id)
-  adds_id at x new word id there within own is = adds_one (record q { objects = set q.objects at new }) (with_id word id) adds
+  pub adds_id : (new : Lists ObjectName A) (word : ObjectWord) (id : ObjectName)
+      → ((of : ℕ) → items_at new of ≡ items_at q.objects of ++ where_same of (object_place word) id)
+      → held (record q { objects = new }) ≡ with_one (held q) (with_id word id)
+  adds_id new word id is = adds_one (record q { objects = new }) (with_id word id) adds
     where
-      adds : Adds (with_id word id) (record q { objects = set q.objects at new })
+      adds : Adds (with_id word id) (record q { objects = new })
       adds (of_object of) =
-          one_longer (λ (l : Vec ObjectName A). l.items) object_place (λ a b. is_word (of_object a) (of_object b)) with_id list_place same_list
-          q.objects at x new word of id there within own is
+          ap (map (with_id of)) (is (object_place of))
+          ∙ one_made with_id (ids_at q of) word of id (object_place of == object_place word) (λ e. same_list of word (sym (list_place of word) ∙ e))
+          ∙ ap (λ (b : Bool). if b then map (with_id of) (ids_at q of) ++ with_id word id ∷ [] else map (with_id of) (ids_at q of)) (list_place of word)
       adds other = refl
 
-  pub adds_text : (at : ℕ) (x new : Texts A) (word : TextWord) (text : List ℕ) → at ≡ text_place word → at < length q.texts
-      → x ≡ get_or q.texts at x → texts_of new ≡ texts_of x ++ text ∷ [] → held (record q { texts = set q.texts at new }) ≡ with_one (held q) (with_text word text)
-  adds_text at x new word text there within own is = adds_one (record q { texts = set q.texts at new }) (with_text word text) adds
+  pub adds_text : (new : Texts A) (word : TextWord) (text : List ℕ)
+      → ((of : TextWord) → texts_of new of ≡ texts_of q.texts of ++ where_same (text_place of) (text_place word) text)
+      → held (record q { texts = new }) ≡ with_one (held q) (with_text word text)
+  adds_text new word text is = adds_one (record q { texts = new }) (with_text word text) adds
     where
-      adds : Adds (with_text word text) (record q { texts = set q.texts at new })
+      adds : Adds (with_text word text) (record q { texts = new })
       adds (of_text of) =
-          one_longer texts_of text_place (λ a b. is_word (of_text a) (of_text b)) with_text pool_place same_pool
-          q.texts at x new word of text there within own is
+          ap (map (with_text of)) (is of)
+          ∙ one_made with_text (texts_of q.texts of) word of text (text_place of == text_place word) (λ e. same_pool of word (sym (pool_place of word) ∙ e))
+          ∙ ap (λ (b : Bool). if b then map (with_text of) (texts_of q.texts of) ++ with_text word text ∷ [] else map (with_text of) (texts_of q.texts of))
+          (pool_place of word)
       adds other = refl
 
   -- or after none
-  pub same_ids : (at : ℕ) (x new : Vec ObjectName A) → x ≡ get_or q.objects at x → new.items ≡ x.items
-      → held (record q { objects = set q.objects at new }) ≡ held q
+  pub same_ids : (new : Lists ObjectName A) → ((of : ℕ) → items_at new of ≡ items_at q.objects of) → held (record q { objects = new }) ≡ held q
   unfolding held
-  same_ids at x new own is = same_lists (held_at (record q { objects = set q.objects at new })) (held_at q) same words
+  same_ids new is = same_lists (held_at (record q { objects = new })) (held_at q) same words
     where
-      same : (word : Word) → held_at (record q { objects = set q.objects at new }) word ≡ held_at q word
-      same (of_object of) =
-          ap (λ (ls : List (List ObjectName)). map (with_id of) (get_or ls (object_place of) []))
-          (map-set_same (λ (l : Vec ObjectName A). l.items) q.objects at new x (is ∙ ap (λ (l : Vec ObjectName A). l.items) own))
+      same : (word : Word) → held_at (record q { objects = new }) word ≡ held_at q word
+      same (of_object of) = ap (map (with_id of)) (is (object_place of))
       same other = refl
 
-  pub same_texts : (at : ℕ) (x new : Texts A) → x ≡ get_or q.texts at x → texts_of new ≡ texts_of x → held (record q { texts = set q.texts at new }) ≡ held q
+  pub same_texts : (new : Texts A) → ((of : TextWord) → texts_of new of ≡ texts_of q.texts of) → held (record q { texts = new }) ≡ held q
   unfolding held
-  same_texts at x new own is = same_lists (held_at (record q { texts = set q.texts at new })) (held_at q) same words
+  same_texts new is = same_lists (held_at (record q { texts = new })) (held_at q) same words
     where
-      same : (word : Word) → held_at (record q { texts = set q.texts at new }) word ≡ held_at q word
-      same (of_text of) =
-          ap (λ (ls : List (List (List ℕ))). map (with_text of) (get_or ls (text_place of) []))
-          (map-set_same texts_of q.texts at new x (is ∙ ap texts_of own))
+      same : (word : Word) → held_at (record q { texts = new }) word ≡ held_at q word
+      same (of_text of) = ap (map (with_text of)) (is of)
       same other = refl
+
+  -- where the prefixes are others
+  pub elsewhere : (new : Texts A) → ((of : TextWord) → (text_place of == 0) ≡ false → texts_of new of ≡ texts_of q.texts of)
+      → (of : Word) → is_word of (of_text TextWord.RefPrefix) ≡ false → held_at (record q { texts = new }) of ≡ held_at q of
+  elsewhere new same (of_text of) other = ap (map (with_text of)) (same of (pool_place of TextWord.RefPrefix ∙ other))
+  elsewhere new same of other = refl
 
   given_number : (of word : NumberWord) (is : Bool) (new : ℕ) (old : Option ℕ) → (is ≡ true → of ≡ word)
       → where_given of (if is then Some new else old) ≡ (if is then with_number word new ∷ [] else where_given of old)
@@ -242,56 +242,40 @@ module _ {A : Type 0} (q : ArgumentLists A) where
           ∙ given_number of word (is_word (of_number of) (of_number word)) number (number_at q of) (same_own of word)
       adds other = refl
 
-  -- where the texts of one word are others
-  pub elsewhere : (at : ℕ) (new : Texts A) (word : TextWord) → at ≡ text_place word → at < length q.texts → (of : Word) → is_word of (of_text word) ≡ false
-      → held_at (record q { texts = set q.texts at new }) of ≡ held_at q of
-  elsewhere at new word there within (of_text of) other =
-      let now = replaced (map texts_of q.texts) at (text_place of) (texts_of new) [] (omega (arith, within, length-map q.texts texts_of)) in
-      let test : (text_place of == at) ≡ false = ap (λ (n : ℕ). text_place of == n) there ∙ pool_place of word ∙ other in
-      ap (λ (l : List (List (List ℕ))). map (with_text of) (get_or l (text_place of) [])) (map-set texts_of q.texts at new)
-      ∙ ap (map (with_text of)) (now ∙ ap (λ (b : Bool). if b then texts_of new else texts_at q of) test)
-  elsewhere at new word there within of other = refl
-
-  -- and there they are the new ones
-  texts_now : (at : ℕ) (new : Texts A) (word : TextWord) → at ≡ text_place word → at < length q.texts
-      → texts_at (record q { texts = set q.texts at new }) word ≡ texts_of new
-  texts_now at new word there within =
-      ap (λ (l : List (List (List ℕ))). get_or l (text_place word) []) (map-set texts_of q.texts at new)
-      ∙ get_or-set_at (map texts_of q.texts) at (text_place word) (texts_of new) [] (sym there) (omega (arith, within, length-map q.texts texts_of))
-
-  texts_then : (at : ℕ) (x : Texts A) (word : TextWord) → at ≡ text_place word → at < length q.texts → x ≡ get_or q.texts at x
-      → texts_at q word ≡ texts_of x
-  texts_then at x word there within own =
-      ap (λ (n : ℕ). get_or (map texts_of q.texts) n []) (sym there) ∙ get_or-map texts_of q.texts at x [] within ∙ ap texts_of (sym own)
-
-  pub ordered_now : (at : ℕ) (new : Texts A) (word : TextWord) → at ≡ text_place word → at < length q.texts → IsOrdered (texts_of new)
-      → IsOrdered (texts_at (record q { texts = set q.texts at new }) word)
-  ordered_now at new word there within h = subst IsOrdered (sym (texts_now at new word there within)) h
-
-  pub alike_now : (at : ℕ) (x new : Texts A) (word : TextWord) → at ≡ text_place word → at < length q.texts → x ≡ get_or q.texts at x
-      → ShowAlike (texts_of x) (texts_of new) → ShowAlike (texts_at q word) (texts_at (record q { texts = set q.texts at new }) word)
-  alike_now at x new word there within own h name =
-      ap (λ (ps : List (List ℕ)). is_shown ps name) (texts_then at x word there within own)
-      ∙ h name
-      ∙ sym (ap (λ (ps : List (List ℕ)). is_shown ps name) (texts_now at new word there within))
-
   -- nothing is held in empty lists
-  none_at : ((place : ℕ) → get_or q.flags.set place false ≡ false) → ((word : ObjectWord) → ids_at q word ≡ [])
-      → ((word : TextWord) → texts_at q word ≡ []) → ((word : NumberWord) → number_at q word ≡ None) → (word : Word) → held_at q word ≡ []
-  none_at flags objects texts numbers (of_flag flag) = ap (λ (set : Bool). where_asked set flag) (flags (place_of flag))
-  none_at flags objects texts numbers (of_object word) = ap (map (with_id word)) (objects word)
-  none_at flags objects texts numbers (of_text word) = ap (map (with_text word)) (texts word)
-  none_at flags objects texts numbers (of_number word) = ap (where_given word) (numbers word)
+  module _ (flags : (place : ℕ) → get_or q.flags.set place false ≡ false) (objects : items_in q.objects ≡ 0)
+      (texts : (word : TextWord) → texts_of q.texts word ≡ []) (numbers : q.numbers ≡ None ∷ None ∷ []) where
+    no_number : (word : NumberWord) → number_at q word ≡ None
+    no_number NumberWord.Deepen = rw numbers refl
+    no_number NumberWord.DeepenSince = rw numbers refl
 
-  pub none_held : ((place : ℕ) → get_or q.flags.set place false ≡ false) → ((word : ObjectWord) → ids_at q word ≡ [])
-      → ((word : TextWord) → texts_at q word ≡ []) → ((word : NumberWord) → number_at q word ≡ None) → held q ≡ []
-  unfolding held
-  none_held flags objects texts numbers = same_lists (held_at q) (λ word. []) (none_at flags objects texts numbers) words
+    none_at : (word : Word) → held_at q word ≡ []
+    none_at (of_flag flag) = ap (λ (set : Bool). where_asked set flag) (flags (place_of flag))
+    none_at (of_object word) = ap (map (with_id word)) (nothing_at (map (λ v. v.items) (lists_of q.objects)) (object_place word) objects)
+    none_at (of_text word) = ap (map (with_text word)) (texts word)
+    none_at (of_number word) = ap (where_given word) (no_number word)
+
+    pub none_held : held q ≡ []
+    unfolding held
+    none_held = same_lists (held_at q) (λ word. []) none_at words
 
   -- the arguments from a word on
-  pub from_word : (order : List Word) (i : ℕ) (d : Word) → i < length order
+  from_word : (order : List Word) (i : ℕ) (d : Word) → i < length order
       → flat_map (held_at q) (drop i order) ≡ held_at q (get_or order i d) ++ flat_map (held_at q) (drop (i + 1) order)
   from_word order i d within = rw (add-one, drop-cons order i d within) refl
+
+  pub own_argument : (order : List Word) (k i : ℕ) (d : Word) → k < length order → i < length (held_at q (get_or order k d))
+      → slice_get (flat_map (held_at q) (drop k order)) i ≡ slice_get (held_at q (get_or order k d)) i
+  own_argument order k i d within below =
+      ap (λ (args : List Arg). slice_get args i) (from_word order k d within)
+      ∙ get_front (held_at q (get_or order k d)) (flat_map (held_at q) (drop (k + 1) order)) i below
+
+  pub later_argument : (order : List Word) (k i : ℕ) (d : Word) → k < length order → length (held_at q (get_or order k d)) ≤ i
+      → slice_get (flat_map (held_at q) (drop k order)) i
+      ≡ slice_get (flat_map (held_at q) (drop (k + 1) order)) (i - length (held_at q (get_or order k d)))
+  later_argument order k i d within past =
+      ap (λ (args : List Arg). slice_get args i) (from_word order k d within)
+      ∙ get_behind (held_at q (get_or order k d)) (flat_map (held_at q) (drop (k + 1) order)) i past
 
   pub held_is : held q ≡ flat_map (held_at q) words
   unfolding held
@@ -331,7 +315,7 @@ flag_found q new flag same =
     any_of (of_flag flag) (held new) ∙ ap is_some (found (held_at new) (held_own new) (of_flag flag) ∙ same)
     ∙ sym (any_of (of_flag flag) (held q) ∙ ap is_some (found (held_at q) (held_own q) (of_flag flag)))
 
-pub prefixes_alike : {A : Type 0} (q new : ArgumentLists A) → ShowAlike (texts_at q TextWord.RefPrefix) (texts_at new TextWord.RefPrefix)
+pub prefixes_alike : {A : Type 0} (q new : ArgumentLists A) → ShowAlike (texts_of q.texts TextWord.RefPrefix) (texts_of new.texts TextWord.RefPrefix)
     → ShowAlike (texts TextWord.RefPrefix (held q)) (texts TextWord.RefPrefix (held new))
 prefixes_alike q new alike name =
     ap (λ (ps : List (List ℕ)). is_shown ps name) (texts_are q TextWord.RefPrefix)

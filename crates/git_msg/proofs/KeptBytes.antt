@@ -104,12 +104,6 @@ pub stay_of : (command : Command) (args : List Arg) (arg : Arg) → AreOf comman
 stay_of command args arg all of =
     all_written (λ a. command_with a ≡ command) (args ++ arg ∷ []) (All-push (λ a. command_with a ≡ command) args arg all of)
 
--- whether or not it was kept
-pub stay_kept : (command : Command) (result : Result (Unit {0}) Kind) (old new : Kept (List Arg)) (arg : Arg) (long : ℕ) → AreOf command old.asked
-    → command_with arg ≡ command → OnOk result (KeepsOne old arg long new) → OnErr result (new ≡ old) → AreOf command new.asked
-stay_kept command (Ok done) old new arg long all of kept same = subst (AreOf command) (sym kept.asked) (stay_of command old.asked arg all of)
-stay_kept command (Err kind) old new arg long all of kept same = subst (λ (q : Kept (List Arg)). AreOf command q.asked) (sym same) all
-
 -- so the values of a request of the command are allowed there
 pub has_values : (format : Format) (asked : Asked) (args : List Arg) → arguments_in asked ≡ args → AreOf (command_asked asked) args
     → All (IsInRange format) args → AreInOrder args → HasValues format asked

@@ -23,7 +23,7 @@ pub mod HeldArguments
 pub mod WrittenArguments
 pub mod KeptBytes
 pub mod RefusedLists
-mod StoredLists
+mod PlacedLists
 pub mod ReaderRuns
 pub mod AddedArguments
 pub mod ArgumentsInOrder

@@ -15,7 +15,8 @@ use Rattle.git_msg.specs.declared.words.Word.TheVariants.{Flag as of_flag, Objec
 use Rattle.git_msg.specs.declared.words.TextWord.{TextWord}
 use Rattle.git_msg.specs.Asked.{bytes_of, is_word}
 use Rattle.git_msg.specs.Kept.{IsSound}
-use Rattle.git_msg.specs.Machine.ArgumentLists.{held, held_at, stored, texts_at}
+use Rattle.git_msg.specs.Machine.ArgumentLists.{held, held_at, stored}
+use Rattle.git_msg.specs.Machine.HeldTexts.{texts_of}
 use Rattle.git_msg.specs.declared.lists.ArgumentLists.{ArgumentLists}
 use Rattle.git_msg.proofs.HeldArguments.{all_held, all_of_word, fewer_held, held_in_order}
 use Rattle.git_msg.specs.Prefixes.{Prunes, begins}
@@ -67,19 +68,22 @@ module _ (P : Arg → Type 0) (make : List ℕ → Arg) where
 
 module _ {A : Type 0} (q new : ArgumentLists A)
     (others : (word : Word) → is_word word (of_text TextWord.RefPrefix) ≡ false → held_at new word ≡ held_at q word)
-    (prunes : Prunes (texts_at q TextWord.RefPrefix) (texts_at new TextWord.RefPrefix)) where
+    (prunes : Prunes (texts_of q.texts TextWord.RefPrefix) (texts_of new.texts TextWord.RefPrefix)) where
   made : List (List ℕ) → List Arg
   made texts = map (with_text TextWord.RefPrefix) texts
 
-  -- the arguments of each word are in their range
-  ranges_at : (format : Format) → All (IsInRange format) (held q) → (word : Word) → All (IsInRange format) (held_at new word)
+  -- what holds of all arguments still does
+  all_at : (P : Arg → Type 0) → All P (held q) → (word : Word) → All P (held_at new word)
   unfolding made
-  ranges_at format all (of_text TextWord.RefPrefix) =
-      subst (λ (ps : List (List ℕ)). All (IsInRange format) (made ps)) (sym prunes.kept)
-      (all_pruned (IsInRange format) (with_text TextWord.RefPrefix) prunes.moved
-      (all_moved (IsInRange format) (with_text TextWord.RefPrefix) (texts_at q TextWord.RefPrefix) prunes.moved prunes.same
-      (all_of_word q (IsInRange format) all (of_text TextWord.RefPrefix))))
-  ranges_at format all word = subst (All (IsInRange format)) (sym (others word refl)) (all_of_word q (IsInRange format) all word)
+  all_at P all (of_text TextWord.RefPrefix) =
+      subst (λ (ps : List (List ℕ)). All P (made ps)) (sym prunes.kept)
+      (all_pruned P (with_text TextWord.RefPrefix) prunes.moved
+      (all_moved P (with_text TextWord.RefPrefix) (texts_of q.texts TextWord.RefPrefix) prunes.moved prunes.same
+      (all_of_word q P all (of_text TextWord.RefPrefix))))
+  all_at P all word = subst (All P) (sym (others word refl)) (all_of_word q P all word)
+
+  pub all_stay : (P : Arg → Type 0) → All P (held q) → All P (held new)
+  all_stay P all = all_held new P (all_at P all)
 
   -- and have no more bytes
   bytes_at : (word : Word) → bytes_of (held_at new word) ≤ bytes_of (held_at q word)
@@ -87,8 +91,8 @@ module _ {A : Type 0} (q new : ArgumentLists A)
   bytes_at (of_text TextWord.RefPrefix) =
       let less = less_pruned (IsInRange Sha1) (with_text TextWord.RefPrefix) prunes.moved in
       let now = ap (λ (ps : List (List ℕ)). bytes_of (made ps)) prunes.kept in
-      let same = sum_by-IsPermutation (λ arg. length (written_text arg)) (made (texts_at q TextWord.RefPrefix)) (made prunes.moved)
-      (IsPermutation-map (with_text TextWord.RefPrefix) (texts_at q TextWord.RefPrefix) prunes.moved prunes.same) in
+      let same = sum_by-IsPermutation (λ arg. length (written_text arg)) (made (texts_of q.texts TextWord.RefPrefix)) (made prunes.moved)
+      (IsPermutation-map (with_text TextWord.RefPrefix) (texts_of q.texts TextWord.RefPrefix) prunes.moved prunes.same) in
       omega (arith, less, now, same)
   bytes_at word = omega (arith, ap bytes_of (others word refl))
 
@@ -96,7 +100,7 @@ module _ {A : Type 0} (q new : ArgumentLists A)
       → IsSound (record { format = format; asked = held q; kept = kept; limit = limit; stored = stored q })
       → IsSound (record { format = format; asked = held new; kept = kept; limit = limit; stored = stored new })
   sound_pruned format kept limit less h = record {
-    ranges = all_held new (IsInRange format) (ranges_at format h.ranges);
+    ranges = all_stay (IsInRange format) h.ranges;
     in_order = held_in_order new;
     written = omega (arith, h.written, fewer_held q new (λ arg. length (written_text arg)) bytes_at);
     covered = omega (arith, less, h.covered);

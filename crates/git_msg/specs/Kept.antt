@@ -1,11 +1,11 @@
 -- A request as it is kept, within a limit on the bytes of its argument lines.
-use Rattle.std.specs.Prelude.{◌≡◌, ◌⊎◌, ℕ, ◌+◌, ◌<◌, ◌≤◌, All, List, [], ◌∷◌}
+use Rattle.std.specs.Prelude.{◌≡◌, ◌⊎◌, ℕ, ◌+◌, ◌<◌, ◌≤◌, All, List}
 use Rattle.git_names.specs.declared.object_format.Format.{Format}
 use Rattle.git_pkt.specs.declared.fault.Kind.{Kind}
 use Rattle.git_pkt.specs.declared.fault.Kind.TheVariants.{TooMuchKept, OutOfMemory}
 use Rattle.git_msg.specs.declared.arguments.Command.{Command}
 use Rattle.git_msg.specs.Arguments.{Arg, IsInRange, command_with, most_limit, stored_in, TakesMemory}
-use Rattle.git_msg.specs.Asked.{Asked, AreInOrder, bytes_of, command_asked, nothing_asked, with_argument, with_one}
+use Rattle.git_msg.specs.Asked.{Asked, AreInOrder, bytes_of, with_one}
 
 -- the format, what is asked for, how many bytes the texts of the lines had and may have, and how many bytes are stored of their values
 pub record Kept (Q : Type 0) : Type 0 where
@@ -33,38 +33,24 @@ pub record IsSound (q : Kept (List Arg)) : Type 0 where
 abbrev pub AreOf : Command → List Arg → Type 0
 AreOf command args = All (λ arg. command_with arg ≡ command) args
 
--- no arguments
-pub record HasNone (format : Format) (limit : ℕ) (q : Kept (List Arg)) : Type 0 where
-  pub asked : q.asked ≡ []
+-- nothing is asked for yet
+pub record IsNew {Q : Type 0} (nothing : Q) (format : Format) (limit : ℕ) (q : Kept Q) : Type 0 where
+  pub asked : q.asked ≡ nothing
   pub kept : q.kept ≡ 0
   pub stored : q.stored ≡ 0
   pub format_is : q.format ≡ format
   pub limit_is : q.limit ≡ limit
 
--- a request without arguments
-pub record IsNew (command : Command) (format : Format) (limit : ℕ) (q : Kept Asked) : Type 0 where
-  pub asked : q.asked ≡ nothing_asked command
-  pub kept : q.kept ≡ 0
-  pub stored : q.stored ≡ 0
-  pub command_is : command_asked q.asked ≡ command
-  pub format_is : q.format ≡ format
-  pub limit_is : q.limit ≡ limit
-
--- an argument was added to the others, with a text of so many bytes
-pub record KeepsOne (old : Kept (List Arg)) (arg : Arg) (long : ℕ) (new : Kept (List Arg)) : Type 0 where
-  pub asked : new.asked ≡ with_one old.asked arg
+-- an argument was added to the others in this way, with a text of so many bytes
+pub record Adds {Q : Type 0} (one_more : Q → Arg → Q) (old : Kept Q) (arg : Arg) (long : ℕ) (new : Kept Q) : Type 0 where
+  pub asked : new.asked ≡ one_more old.asked arg
   pub kept : new.kept ≡ old.kept + long
   pub stored : new.stored ≡ old.stored + stored_in arg
   pub format : new.format ≡ old.format
   pub limit : new.limit ≡ old.limit
 
-pub record KeepsArgument (old : Kept Asked) (arg : Arg) (long : ℕ) (new : Kept Asked) : Type 0 where
-  pub asked : new.asked ≡ with_argument old.asked arg
-  pub kept : new.kept ≡ old.kept + long
-  pub stored : new.stored ≡ old.stored + stored_in arg
-  pub command : command_asked new.asked ≡ command_asked old.asked
-  pub format : new.format ≡ old.format
-  pub limit : new.limit ≡ old.limit
+abbrev pub KeepsOne : Kept (List Arg) → Arg → ℕ → Kept (List Arg) → Type 0
+KeepsOne = Adds with_one
 
 -- the argument was not added to the others, because of this error
 abbrev pub IsUnkept : {Q : Type 0} → Kept Q → Arg → ℕ → Kind → Type 0

@@ -5,6 +5,7 @@ pub mod ArgumentLists
 pub mod JudgedLine
 pub mod RequestReader
 pub mod RequestReaderSteps
+pub mod PlacedLists
 pub mod TextPools
 pub mod RequestWriter
 pub mod StreamStages

@@ -53,6 +53,12 @@ pub record Prunes (ps qs : List (List ℕ)) : Type 0 where
   pub same : IsPermutation ps moved
   pub kept : qs ≡ dedup begins moved
 
+-- the texts in their order, without those that begin with another: they show the same names
+pub record PutsInOrder (old new : List (List ℕ)) : Type 0 where
+  pub ordered : IsOrdered new
+  pub alike : ShowAlike old new
+  pub prunes : Prunes old new
+
 -- the same request, with prefixes that show the same names
 pub record OrdersPrefixes (old new : Kept (List Arg)) : Type 0 where
   pub symrefs : symrefs_in new.asked ≡ symrefs_in old.asked

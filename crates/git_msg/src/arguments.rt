@@ -38,21 +38,6 @@ pub enum Argument<'a> {
     Number(NumberWord, u64),
 }
 
-// The same argument, taken apart and put together: the check has no rule yet for lending or copying a whole parameter that
-// may have both a borrowed text and an object name.
-macro_rules! put_together {
-    ($argument:ident) => {
-        match $argument {
-            Argument::Flag(flag) => Argument::Flag(flag),
-            Argument::Object(word, id) => Argument::Object(word, id),
-            Argument::Text(word, text) => Argument::Text(word, text),
-            Argument::Number(word, number) => Argument::Number(word, number),
-        }
-    };
-}
-
-pub(crate) use put_together;
-
 impl Command {
     /// The command's key, as it stands after `command=`.
     pub fn name(self) -> &'static str

@@ -1,5 +1,5 @@
 //! Requests for objects, `fetch` of gitprotocol-v2(5), as they are kept.
-ghost use Rattle.std.specs.Prelude.{◌≡◌, ◌+◌, ◌≤◌, ◌^◌, ◌<◌, length, MatchBool, OnOk, OnErr, IfErr, IfSome, slice_get, OnSome};
+ghost use Rattle.std.specs.Prelude.{◌≡◌, ◌+◌, ◌≤◌, ◌^◌, ◌<◌, length, MatchBool, OnOk, OnErr, IfErr, IfSome, [], slice_get, OnSome};
 ghost use Rattle.std.specs.Option.{option_copied};
 ghost use Rattle.git_names.specs.RefName.{IsRefName};
 ghost use Rattle.git_msg.specs.Arguments.{shown, written_text};
@@ -38,7 +38,7 @@ impl<A: Allocator + Copy> Model for Fetch<A> {
 impl<A: Allocator + Copy> Fetch<A> {
     ghost use Rattle.git_msg.specs.Asked.{HasWants, flag_among, has_deepen_conflict, wants_in, haves_in, shallows_in, filters_in, done_in};
     ghost use Rattle.git_msg.specs.Asked.{deepen_in, deepen_since_in, deepen_nots_in, want_refs_in};
-    ghost use Rattle.git_msg.specs.Kept.{AreOf, HasNone};
+    ghost use Rattle.git_msg.specs.Kept.{AreOf, IsNew};
 
     /// The objects that the client wants to retrieve, in the order of their lines.
     pub fn wants(&self) -> &[Oid]
@@ -171,7 +171,7 @@ impl<A: Allocator + Copy> Fetch<A> {
     }
 
     pub(crate) fn new(alloc: A, format: Format, limits: Limits) -> Fetch<A>
-        ensures { HasNone format limits.args result }
+        ensures { IsNew [] format limits.args result }
     {
         Fetch {
             arguments: KeptArguments::new(alloc, format, limits),

@@ -1,8 +1,10 @@
 //! The arguments of a request as they are kept, within a limit on the bytes of their lines.
-ghost use Rattle.std.specs.Prelude.{◌≡◌, ◌+◌, ◌^◌, ◌≤◌, ◌<◌, length, OnOk, OnSome, OnErr, IfErr, IfSome, List, slice_get};
+ghost use Rattle.std.specs.Prelude.{◌≡◌, ◌+◌, ◌^◌, ◌≤◌, ◌<◌, length, OnOk, OnSome, OnErr, IfErr, IfSome, [], slice_get};
 ghost use Rattle.std.specs.Option.{option_copied, option_map};
 ghost use Rattle.git_pkt.specs.Packets.{longest_payload};
-ghost use Rattle.git_msg.specs.Arguments.{IsInRange, shown, with_text, written_text};
+ghost use Rattle.git_msg.specs.Arguments.{IsInRange, command_with, shown, with_text, written_text};
+ghost use Rattle.git_msg.specs.declared.arguments.Command.{Command};
+ghost use Rattle.git_msg.specs.declared.words.TextWord.{TextWord};
 ghost use Rattle.git_msg.specs.Asked.{number as number_after};
 
 use crate::arguments::Argument;
@@ -47,12 +49,12 @@ impl<A: Allocator + Copy> Model for KeptArguments<A> {
 
 impl<A: Allocator + Copy> KeptArguments<A> {
     ghost use Rattle.git_msg.specs.Asked.{flag_among, ids, ref_prefixes_in, texts};
-    ghost use Rattle.git_msg.specs.Kept.{HasNone, IsSound};
+    ghost use Rattle.git_msg.specs.Kept.{AreOf, IsNew, IsSound};
     ghost use Rattle.git_msg.specs.Machine.HeldTexts.{texts_of};
     ghost use Rattle.git_msg.specs.Prefixes.{IsOrdered, OrdersPrefixes};
 
     pub(crate) fn new(alloc: A, format: Format, limits: Limits) -> KeptArguments<A>
-        ensures { HasNone format limits.args result }
+        ensures { IsNew [] format limits.args result }
     {
         KeptArguments {
             format,
@@ -100,7 +102,7 @@ impl<A: Allocator + Copy> KeptArguments<A> {
         ensures bound { OnSome result (i + 1 < 2 ^ 64) }
         ensures range { IfSome result (λ text. IsInRange self.now.format (with_text word text.now)) }
     {
-        self.lists.texts(word).get(i)
+        self.lists.texts().get(word, i)
     }
 
     /// The number after the word, if there is one; of several, the last.
@@ -110,11 +112,11 @@ impl<A: Allocator + Copy> KeptArguments<A> {
         self.lists.number(word)
     }
 
-    /// The prefixes.
-    pub(crate) fn prefixes(&self) -> &Texts<A>
-        ensures { texts_of result.now ≡ ref_prefixes_in self.now.asked }
+    /// The texts after each word, in the order of their lines.
+    pub(crate) fn texts(&self) -> &Texts<A>
+        ensures { (word : TextWord) → texts_of result.now word ≡ texts word self.now.asked }
     {
-        self.lists.texts(TextWord::RefPrefix)
+        self.lists.texts()
     }
 
     /// The argument at index `i`, in the order in which they are written.
@@ -130,13 +132,14 @@ impl<A: Allocator + Copy> KeptArguments<A> {
     pub(crate) fn put_in_order(&mut self)
         ensures ordered { IsOrdered (ref_prefixes_in self.new.asked) }
         ensures same { OrdersPrefixes self.old self.new }
+        ensures own { (command : Command) → AreOf command self.old.asked → AreOf command self.new.asked }
     {
         self.lists.put_in_order();
     }
 }
 
 impl<A: Memory + Copy> KeptArguments<A> {
-    ghost use Rattle.git_msg.specs.Kept.{IsUnkept, KeepsOne};
+    ghost use Rattle.git_msg.specs.Kept.{AreOf, IsUnkept, KeepsOne};
     ghost use Rattle.git_msg.specs.Memory.{NeedsRefusal};
 
     /// Keeps an argument whose line has a text of so many bytes.
@@ -144,6 +147,7 @@ impl<A: Memory + Copy> KeptArguments<A> {
         requires value { IsInRange self.old.format (shown argument.now) }
         requires counted { length (written_text (shown argument.now)) ≤ text_length }
         ensures kept { OnOk result (KeepsOne self.old (shown argument.now) text_length self.new) }
+        ensures own { (command : Command) → command_with (shown argument.now) ≡ command → AreOf command self.old.asked → AreOf command self.new.asked }
         ensures fits { OnOk result (self.old.kept + text_length ≤ self.old.limit) }
         ensures unchanged { OnErr result (self.new ≡ self.old) }
         ensures refused { IfErr result (IsUnkept self.old (shown argument.now) text_length) }

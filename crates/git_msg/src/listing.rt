@@ -5,6 +5,7 @@ ghost use Rattle.std.specs.Option.{option_copied};
 use crate::flags::Flag;
 use crate::kept::KeptArguments;
 use crate::ls_refs::LsRefs;
+use crate::words::TextWord;
 use std::alloc::Allocator;
 use std::marker::Model;
 
@@ -106,7 +107,7 @@ impl<A: Allocator + Copy> Listing<A> {
         requires { IsOrdered (ref_prefixes_in self.now.asked) }
         ensures { SplitsAt (ref_prefixes_in self.now.asked) name.now result }
     {
-        self.request.prefixes().split(name)
+        self.arguments().texts().split(TextWord::RefPrefix, name)
     }
 
     /// Whether a name is shown, if this many of the prefixes do not come after it.
@@ -115,6 +116,6 @@ impl<A: Allocator + Copy> Listing<A> {
         requires split { SplitsAt (ref_prefixes_in self.now.asked) name.now split }
         ensures { result ≡ is_shown (ref_prefixes_in self.now.asked) name.now }
     {
-        self.request.prefixes().shows_at(split, name)
+        self.arguments().texts().shows_at(TextWord::RefPrefix, split, name)
     }
 }

@@ -1,14 +1,14 @@
 //! The arguments of a request as they are stored: a list for each word before texts or object names.
-ghost use Rattle.std.specs.Prelude.{◌≡◌, ◌+◌, ◌<◌, false, ◌≤◌, ◌^◌, ◌++◌, ℕ, [], List, Some, IfErr, MatchResult, OnErr, OnOk, set, slice_get};
+ghost use Rattle.std.specs.Prelude.{◌≡◌, ◌+◌, ◌<◌, false, ◌≤◌, ◌^◌, [], IfErr, OnErr, OnOk, length, slice_get};
 ghost use Rattle.std.specs.Option.{option_map};
-ghost use Rattle.git_msg.specs.Arguments.{Arg, TakesMemory, shown, stored_in};
+ghost use Rattle.git_msg.specs.Arguments.{TakesMemory, shown, stored_in};
 ghost use Rattle.git_msg.specs.Asked.{ids, is_word, flag_among, number as number_after, texts, with_one};
 ghost use Rattle.git_msg.specs.Memory.{HasRefused};
 
 use crate::arguments::Argument;
 use crate::flags::{Flag, FlagSet};
 use crate::memory::Memory;
-use crate::parts::{Texts, id_at, keep_id, number_at, past_flag};
+use crate::parts::{Lists, Texts};
 use crate::words::{NumberWord, ObjectWord, TextWord, WORDS, Word};
 use git_names::Oid;
 use git_pkt::Kind;
@@ -18,16 +18,15 @@ use std::alloc::Allocator;
 #[derive(Drop)]
 pub(crate) struct ArgumentLists<A: Allocator + Copy> {
     flags: FlagSet,
-    objects: [Vec<Oid, A>; 4],
-    texts: [Texts<A>; 4],
+    objects: Lists<Oid, A>,
+    texts: Texts<A>,
     numbers: [Option<u64>; 2],
 }
 
 impl<A: Allocator + Copy> ArgumentLists<A> {
-    ghost use Rattle.git_msg.specs.Arguments.{with_text};
-    ghost use Rattle.git_msg.specs.Machine.ArgumentLists.{held, held_at, stored, texts_at};
+    ghost use Rattle.git_msg.specs.Machine.ArgumentLists.{held, held_at, stored};
     ghost use Rattle.git_msg.specs.Machine.HeldTexts.{texts_of};
-    ghost use Rattle.git_msg.specs.Prefixes.{IsOrdered, Prunes, ShowAlike};
+    ghost use Rattle.git_msg.specs.Prefixes.{PutsInOrder};
     ghost use Rattle.git_msg.specs.declared.words.TextWord.{TextWord};
 
     pub(crate) fn new(alloc: A) -> ArgumentLists<A>
@@ -36,18 +35,8 @@ impl<A: Allocator + Copy> ArgumentLists<A> {
     {
         ArgumentLists {
             flags: FlagSet::new(),
-            objects: [
-                Vec::new(alloc),
-                Vec::new(alloc),
-                Vec::new(alloc),
-                Vec::new(alloc),
-            ],
-            texts: [
-                Texts::new(alloc),
-                Texts::new(alloc),
-                Texts::new(alloc),
-                Texts::new(alloc),
-            ],
+            objects: Lists::new(alloc),
+            texts: Texts::new(alloc),
             numbers: [None; 2],
         }
     }
@@ -62,14 +51,14 @@ impl<A: Allocator + Copy> ArgumentLists<A> {
     pub(crate) fn ids(&self, word: ObjectWord) -> &[Oid]
         ensures { result.now ≡ ids word (held self.now) }
     {
-        &self.objects[word.place()]
+        self.objects.at(word.place())
     }
 
-    /// The texts after the word, in the order of their lines.
-    pub(crate) fn texts(&self, word: TextWord) -> &Texts<A>
-        ensures { texts_of result.now ≡ texts word (held self.now) }
+    /// The texts after each word, in the order of their lines.
+    pub(crate) fn texts(&self) -> &Texts<A>
+        ensures { (word : TextWord) → texts_of result.now word ≡ texts word (held self.now) }
     {
-        &self.texts[word.place()]
+        &self.texts
     }
 
     /// The number after the word, if there is one; of several, the last.
@@ -81,13 +70,11 @@ impl<A: Allocator + Copy> ArgumentLists<A> {
 
     /// Sorts the prefixes, and drops those that begin with another one: the same names begin with one of the rest.
     pub(crate) fn put_in_order(&mut self)
-        ensures ordered { IsOrdered (texts_at self.new TextWord.RefPrefix) }
-        ensures alike { ShowAlike (texts_at self.old TextWord.RefPrefix) (texts_at self.new TextWord.RefPrefix) }
-        ensures prunes { Prunes (texts_at self.old TextWord.RefPrefix) (texts_at self.new TextWord.RefPrefix) }
+        ensures order { PutsInOrder (texts_of self.old.texts TextWord.RefPrefix) (texts_of self.new.texts TextWord.RefPrefix) }
         ensures others { (word : Word) → is_word word (Word.Text TextWord.RefPrefix) ≡ false → held_at self.new word ≡ held_at self.old word }
         ensures stored { stored self.new ≤ stored self.old }
     {
-        self.texts[TextWord::RefPrefix.place()].put_in_order();
+        self.texts.put_in_order();
     }
 
     /// The argument at index `i`, in the order in which they are written.
@@ -96,34 +83,43 @@ impl<A: Allocator + Copy> ArgumentLists<A> {
     {
         let mut left = i;
         for word in WORDS {
-            match self.at(*word, left) {
-                Ok(argument) => return Some(argument),
-                Err(next) => left = next,
+            let count = self.count(*word);
+            if left < count {
+                return self.at(*word, left);
             }
+            left -= count;
         }
         None
     }
 
-    // The argument at this index, if one of this word has it; otherwise the index after them.
-    fn at(&self, word: Word, i: usize) -> Result<Argument<'_>, usize>
-        ensures { MatchResult result
-            (λ argument. (others : List Arg) → slice_get (held_at self.now word ++ others) i ≡ Some (shown argument))
-            (λ next. (others : List Arg) → slice_get (held_at self.now word ++ others) i ≡ slice_get others next) }
+    // How many arguments the word has.
+    fn count(&self, word: Word) -> usize
+        ensures { result ≡ length (held_at self.now word) }
     {
         match word {
-            Word::Flag(flag) => match past_flag(self.flags.has(flag), i) {
-                None => Ok(Argument::Flag(flag)),
-                Some(next) => Err(next),
+            Word::Flag(flag) => self.flags.has(flag) as usize,
+            Word::Object(word) => self.objects.at(word.place()).len(),
+            Word::Text(word) => self.texts.count(word),
+            Word::Number(word) => self.numbers[word.place()].is_some() as usize,
+        }
+    }
+
+    // The argument at this index of those of the word.
+    fn at(&self, word: Word, i: usize) -> Option<Argument<'_>>
+        requires { i < length (held_at self.now word) }
+        ensures { option_map shown result ≡ slice_get (held_at self.now word) i }
+    {
+        match word {
+            Word::Flag(flag) => Some(Argument::Flag(flag)),
+            Word::Object(word) => Some(Argument::Object(word, self.objects.at(word.place())[i])),
+            Word::Text(word) => match self.texts.get(word, i) {
+                Some(text) => Some(Argument::Text(word, text)),
+                None => None,
             },
-            Word::Object(word) => {
-                let id = *id_at(&self.objects[word.place()], i)?;
-                Ok(Argument::Object(word, id))
-            }
-            Word::Text(word) => Ok(Argument::Text(word, self.texts[word.place()].at(i)?)),
-            Word::Number(word) => {
-                let number = number_at(self.numbers[word.place()], i)?;
-                Ok(Argument::Number(word, number))
-            }
+            Word::Number(word) => match self.numbers[word.place()] {
+                Some(number) => Some(Argument::Number(word, number)),
+                None => None,
+            },
         }
     }
 }
@@ -146,8 +142,8 @@ impl<A: Memory + Copy> ArgumentLists<A> {
                 self.flags.add(*flag);
                 Ok(())
             }
-            Argument::Object(word, id) => keep_id(&mut self.objects[word.place()], *id),
-            Argument::Text(word, text) => self.texts[word.place()].keep(text),
+            Argument::Object(word, id) => self.objects.push(word.place(), *id),
+            Argument::Text(word, text) => self.texts.keep(*word, text),
             Argument::Number(word, number) => {
                 self.numbers[word.place()] = Some(*number);
                 Ok(())

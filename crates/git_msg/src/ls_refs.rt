@@ -1,5 +1,5 @@
 //! Requests for references, `ls-refs` of gitprotocol-v2(5), as they are kept.
-ghost use Rattle.std.specs.Prelude.{◌≡◌, ◌+◌, ◌^◌, ◌≤◌, ◌<◌, length, OnOk, OnSome, OnErr, IfErr, IfSome, slice_get};
+ghost use Rattle.std.specs.Prelude.{◌≡◌, ◌+◌, ◌^◌, ◌≤◌, ◌<◌, length, OnOk, OnSome, OnErr, IfErr, IfSome, [], slice_get};
 ghost use Rattle.std.specs.Option.{option_copied};
 ghost use Rattle.git_msg.specs.Arguments.{shown, written_text};
 
@@ -37,7 +37,7 @@ impl<A: Allocator + Copy> Model for LsRefs<A> {
 impl<A: Allocator + Copy> LsRefs<A> {
     ghost use Rattle.git_msg.specs.Arguments.{most_text};
     ghost use Rattle.git_msg.specs.Asked.{flag_among, ref_prefixes_in, peel_in, symrefs_in, unborn_in};
-    ghost use Rattle.git_msg.specs.Kept.{AreOf, HasNone};
+    ghost use Rattle.git_msg.specs.Kept.{AreOf, IsNew};
     ghost use Rattle.git_msg.specs.Machine.HeldTexts.{texts_of};
     ghost use Rattle.git_msg.specs.Prefixes.{IsOrdered, OrdersPrefixes};
 
@@ -86,14 +86,8 @@ impl<A: Allocator + Copy> LsRefs<A> {
         self.arguments.put_in_order();
     }
 
-    pub(crate) fn prefixes(&self) -> &Texts<A>
-        ensures { texts_of result.now ≡ ref_prefixes_in self.now.asked }
-    {
-        self.arguments.prefixes()
-    }
-
     pub(crate) fn new(alloc: A, format: Format, limits: Limits) -> LsRefs<A>
-        ensures { HasNone format limits.args result }
+        ensures { IsNew [] format limits.args result }
     {
         LsRefs {
             arguments: KeptArguments::new(alloc, format, limits),

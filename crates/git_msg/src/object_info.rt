@@ -1,5 +1,5 @@
 //! Requests for facts about objects, `object-info` of gitprotocol-v2(5), as they are kept.
-ghost use Rattle.std.specs.Prelude.{◌≡◌, ◌+◌, ◌≤◌, length, OnOk, OnErr, IfErr};
+ghost use Rattle.std.specs.Prelude.{◌≡◌, ◌+◌, ◌≤◌, length, [], OnOk, OnErr, IfErr};
 ghost use Rattle.git_msg.specs.Arguments.{shown, written_text};
 
 use crate::arguments::{Argument, Command};
@@ -34,7 +34,7 @@ impl<A: Allocator + Copy> Model for ObjectInfo<A> {
 
 impl<A: Allocator + Copy> ObjectInfo<A> {
     ghost use Rattle.git_msg.specs.Asked.{flag_among, oids_in};
-    ghost use Rattle.git_msg.specs.Kept.{AreOf, HasNone};
+    ghost use Rattle.git_msg.specs.Kept.{AreOf, IsNew};
 
     /// Whether the request has the flag. It has no flag of another command.
     pub fn has(&self, flag: Flag) -> bool
@@ -58,7 +58,7 @@ impl<A: Allocator + Copy> ObjectInfo<A> {
     }
 
     pub(crate) fn new(alloc: A, format: Format, limits: Limits) -> ObjectInfo<A>
-        ensures { HasNone format limits.args result }
+        ensures { IsNew [] format limits.args result }
     {
         ObjectInfo {
             arguments: KeptArguments::new(alloc, format, limits),

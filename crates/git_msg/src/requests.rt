@@ -4,7 +4,7 @@ ghost use Rattle.std.specs.Option.{option_map};
 ghost use Rattle.git_pkt.specs.Packets.{longest_payload};
 ghost use Rattle.git_msg.specs.Arguments.{shown, written_text};
 
-use crate::arguments::{Argument, Command, check_value, put_together, word_at};
+use crate::arguments::{Argument, Command, check_value, word_at};
 use crate::fetch::Fetch;
 use crate::kept::KeptArguments;
 use crate::limits::Limits;
@@ -167,25 +167,13 @@ impl<A: Memory + Copy> Request<A> {
     /// of its range, `BadRefName` for a `want-ref` that is no reference name, `BadLine` for a text of more than 32,000 bytes
     /// or an empty `deepen-not`); `TooMuchKept` if the texts of all lines, as they are written, would exceed the limit; and
     /// `OutOfMemory`. Then the request stays as it was.
-    pub fn add(&mut self, argument: Argument<'_>) -> Result<(), Kind>
-        ensures added { OnOk result (Keeps self.old (shown argument.entry) (length (written_text (shown argument.entry))) self.new) }
-        ensures passes { OnOk result (Passes (add_checks self.old (shown argument.entry))) }
-        ensures unchanged { OnErr result (self.new ≡ self.old) }
-        ensures refused { IfErr result (IsRefused (add_checks self.old (shown argument.entry)) (shown argument.entry)) }
-
-        // It reports `OutOfMemory` only if memory for a list was refused, and the list was to have no more bytes than the limit.
-        ensures memory { IfErr result (NeedsRefusal A.refuses (limit_of self.old)) }
-    {
-        let argument = put_together!(argument);
-        self.add_lent(&argument)
-    }
-
-    // The same for a borrowed argument.
-    fn add_lent(&mut self, argument: &Argument<'_>) -> Result<(), Kind>
+    pub fn add(&mut self, argument: &Argument<'_>) -> Result<(), Kind>
         ensures added { OnOk result (Keeps self.old (shown argument.now) (length (written_text (shown argument.now))) self.new) }
         ensures passes { OnOk result (Passes (add_checks self.old (shown argument.now))) }
         ensures unchanged { OnErr result (self.new ≡ self.old) }
         ensures refused { IfErr result (IsRefused (add_checks self.old (shown argument.now)) (shown argument.now)) }
+
+        // It reports `OutOfMemory` only if memory for a list was refused, and the list was to have no more bytes than the limit.
         ensures memory { IfErr result (NeedsRefusal A.refuses (limit_of self.old)) }
     {
         check_value(self.command(), self.format(), argument)?;

@@ -3,7 +3,8 @@ ghost use Rattle.std.specs.Prelude.{◌≡◌, ◌≢◌, ◌+◌, ◌*◌, ◌<
 ghost use Rattle.git_names.specs.Steps.{TakesAtMost};
 ghost use Rattle.git_pkt.specs.declared.fault.Kind.{Kind};
 ghost use Rattle.git_msg.specs.Arguments.{IsNoArgument, IsNoNumberIn, IsNoTextOf, IsNumberIn, IsNumberOf, IsTextOf, line_of, refusal_of, row, words_of};
-ghost use Rattle.git_msg.specs.Machine.ArgumentLists.{number_place, object_place, text_place};
+ghost use Rattle.git_msg.specs.Machine.ArgumentLists.{number_place, object_place};
+ghost use Rattle.git_msg.specs.Machine.TextPools.{text_place};
 
 use crate::arguments::Command;
 use crate::flags::Flag;

@@ -92,7 +92,7 @@ fn add_line(request: &mut Request<Global>, line: &[u8]) -> Result<(), Kind>
     // So that a line is checked by its own text alone.
     let offer = Offer::everything(request.format());
     match read_argument(request.command(), &offer, line, &mut Steps::new()) {
-        Ok(argument) => request.add(argument),
+        Ok(argument) => request.add(&argument),
         Err(kind) => Err(kind),
     }
 }

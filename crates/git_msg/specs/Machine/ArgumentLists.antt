@@ -1,6 +1,6 @@
 -- What is stored of a request's arguments, as a list in the order in which they are written, and how many bytes that are: 33
 -- for an object name, and those of the pools of texts.
-use Rattle.std.specs.Prelude.{ℕ, ◌+◌, ◌*◌, Bool, false, Option, None, List, [], ◌∷◌, get_or, if◌then◌else◌, length, map, sum_by}
+use Rattle.std.specs.Prelude.{ℕ, ◌+◌, ◌*◌, Bool, false, Option, None, List, [], ◌∷◌, get_or, if◌then◌else◌, map}
 use Rattle.std.specs.List.{flat_map}
 use Rattle.std.specs.Str.{bytes_eq}
 use Rattle.git_names.specs.ObjectName.{ObjectName}
@@ -10,12 +10,12 @@ use Rattle.git_msg.specs.declared.flags.FlagSet.{FlagSet}
 use Rattle.git_msg.specs.declared.words.Word.{Word}
 use Rattle.git_msg.specs.declared.words.Word.TheVariants.{Flag as of_flag, Object as of_object, Text as of_text, Number as of_number}
 use Rattle.git_msg.specs.declared.words.ObjectWord.{ObjectWord}
-use Rattle.git_msg.specs.declared.words.TextWord.{TextWord}
 use Rattle.git_msg.specs.declared.words.NumberWord.{NumberWord}
 use Rattle.git_msg.specs.Arguments.{Arg, with_id, with_text, words}
 use Rattle.git_msg.specs.Asked.{where_asked, where_given}
 use Rattle.git_msg.specs.Flags.{flag_row}
 use Rattle.git_msg.specs.Machine.HeldTexts.{texts_of, texts_stored}
+use Rattle.git_msg.specs.Machine.PlacedLists.{items_at, items_in}
 
 -- the index of a flag among all flags
 abbrev pub place_among : List Word → Flag → ℕ
@@ -34,12 +34,6 @@ object_place ObjectWord.Have = 1
 object_place ObjectWord.Shallow = 2
 object_place ObjectWord.ObjectId = 3
 
-abbrev pub text_place : TextWord → ℕ
-text_place TextWord.RefPrefix = 0
-text_place TextWord.Filter = 1
-text_place TextWord.DeepenNot = 2
-text_place TextWord.WantRef = 3
-
 abbrev pub number_place : NumberWord → ℕ
 number_place NumberWord.Deepen = 0
 number_place NumberWord.DeepenSince = 1
@@ -50,10 +44,7 @@ is_held held flag = get_or held.set (place_of flag) false
 
 module _ {A : Type 0} where
   abbrev pub ids_at : ArgumentLists A → ObjectWord → List ObjectName
-  ids_at q word = get_or (map (λ l. l.items) q.objects) (object_place word) []
-
-  abbrev pub texts_at : ArgumentLists A → TextWord → List (List ℕ)
-  texts_at q word = get_or (map texts_of q.texts) (text_place word) []
+  ids_at q word = items_at q.objects (object_place word)
 
   abbrev pub number_at : ArgumentLists A → NumberWord → Option ℕ
   number_at q word = get_or q.numbers (number_place word) None
@@ -62,7 +53,7 @@ module _ {A : Type 0} where
   abbrev pub held_at : ArgumentLists A → Word → List Arg
   held_at q (of_flag flag) = where_asked (is_held q.flags flag) flag
   held_at q (of_object word) = map (with_id word) (ids_at q word)
-  held_at q (of_text word) = map (with_text word) (texts_at q word)
+  held_at q (of_text word) = map (with_text word) (texts_of q.texts word)
   held_at q (of_number word) = where_given word (number_at q word)
 
   -- all arguments
@@ -71,10 +62,10 @@ module _ {A : Type 0} where
 
   -- how many bytes are stored
   abbrev pub stored : ArgumentLists A → ℕ
-  stored q = 33 * sum_by (λ l. length l.items) q.objects + sum_by texts_stored q.texts
+  stored q = 33 * items_in q.objects + texts_stored q.texts
 
   -- the same with each field named, so that none can be added without being counted
   abbrev pub stored_by_fields : ArgumentLists A → ℕ
   stored_by_fields q =
       let record { flags = flags; objects = objects; texts = texts; numbers = numbers } = q in
-      33 * sum_by (λ l. length l.items) objects + sum_by texts_stored texts
+      33 * items_in objects + texts_stored texts
