@@ -14,6 +14,6 @@ returns-in_ok-check_end-in-Flush-clause-goes_on g c = search (rules, completed)
 
 pub returns-in_err-check_end-in-Flush-clause-goes_on : goal.returns-in_err-check_end-in-Flush-clause-goes_on
 returns-in_err-check_end-in-Flush-clause-goes_on g c =
-    let p = err_from_is_err_and c.from_residual-in_err-check_end-in-Flush.result c.from_residual-in_err-check_end-in-Flush.ensures.1 in
+    let p = err_from_is_err_and c.from_residual.result c.from_residual.ensures.1 in
     rw (p.1, p.2, c.in-Flush.is)
     (end_refused _ c.args.self.now c.in_err-check_end-in-Flush.field-0.0 c.requires c.in_err-check_end-in-Flush.ensures)
