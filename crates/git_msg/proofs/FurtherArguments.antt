@@ -1,6 +1,6 @@
 -- A request that keeps one more argument.
 use Rattle.std.proofs.Common.{arith, ◌≡◌, ℕ, ◌+◌, ◌<◌, ◌≤◌, Bool, true, List, [], ◌∷◌, ◌++◌, ◌-◌, false, cond, take, rules}
-use Rattle.std.proofs.Common.{ap, length}
+use Rattle.std.proofs.Common.{ap, length, ◌∙◌}
 use Rattle.std.proofs.lemmas.List.{append-nil, length-take}
 use Rattle.git_pkt.specs.Packets.{text_of}
 use Rattle.git_names.specs.declared.object_format.Format.{Format}
@@ -9,10 +9,11 @@ use Rattle.git_msg.specs.declared.requests.Request.{Request}
 use Rattle.git_msg.specs.declared.reader.RequestReader.{RequestReader}
 use Rattle.git_msg.specs.Arguments.{Arg, alone, with_id, with_text, with_number, word_of, HasArgument, StatesValue, IsInRange, written_text, written_value}
 use Rattle.git_msg.proofs.KeptBytes.{small_number, stored_fits}
-use Rattle.git_msg.specs.Machine.HeldRequest.{format_of, kept_of, limit_of, IsBounded, Keeps}
+use Rattle.git_msg.specs.Machine.HeldRequest.{asked_of, command_of, format_of, kept_of, limit_of, IsBounded, Keeps}
+use Rattle.git_msg.specs.Asked.{command_asked}
 use Rattle.git_msg.specs.Lines.{Line, argument}
 use Rattle.git_msg.specs.Machine.RequestReader.{InArguments}
-use Rattle.git_msg.proofs.ArgumentsInOrder.{asked_snoc}
+use Rattle.git_msg.proofs.ArgumentsInOrder.{asked_snoc, same_command}
 use Rattle.git_msg.proofs.DigitValues.{decimal_is_shortest}
 use Rattle.git_msg.proofs.HeadWords.{line_grows, written_is}
 use Rattle.git_msg.proofs.WrittenNames.{length-hex_of, named_in}
@@ -21,7 +22,9 @@ use Rattle.git_msg.proofs.LineLists.{commands_snoc, arguments_snoc, delimiter_sn
 -- one more argument in the argument part
 pub one_more : {A : Type 0} (lines : List Line) (arg : Arg) (long : ℕ) (r : RequestReader A) (q : Request A) (bounded : IsBounded r.offer q)
     → InArguments lines r → Keeps r.request arg long q → InArguments (lines ++ argument arg long ∷ []) (record r { request = q; bounded = bounded })
-one_more lines arg long r q bounded h k = search (rules, delimiter_snoc, commands_snoc, append-nil, asked_snoc, arguments_snoc, kept_snoc)
+one_more lines arg long r q bounded h k =
+    let command : command_of q ≡ command_of r.request = ap command_asked k.asked ∙ same_command (asked_of r.request) arg in
+    search (rules, command, delimiter_snoc, commands_snoc, append-nil, asked_snoc, arguments_snoc, kept_snoc)
 
 -- an argument's text is no shorter than its written form
 as_stated : (format : Format) (value : List ℕ) (arg : Arg) → StatesValue format value arg → length (written_value arg) ≤ length value
