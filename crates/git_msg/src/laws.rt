@@ -251,7 +251,6 @@ pub fn usual_limit()
 
 /// If arguments were added one after the other to an empty request, it asks for what the list of them contains, and has kept
 /// as many bytes as the texts of their lines have.
-#[tactic(auto, using(crate::proofs::AddedArguments::added_asked, crate::proofs::AddedArguments::added_kept, crate::proofs::AddedArguments::added_stored))]
 pub fn added_arguments_are_asked_for<A: Memory + Copy>()
     ensures asked { (command : Command) (format : Format) (limit : ℕ) (args : List Arg) (empty request : Request A)
         → IsEmpty command format limit empty → AddsAll empty args request → asked_of request ≡ asked_by command args }
