@@ -1,5 +1,5 @@
 -- The values that texts contain are allowed in a request, and so are those that they ask for together.
-use Rattle.std.proofs.Common.{arith, ◌≡◌, ◌+◌, ◌<◌, ◌≤◌, ℕ, Bool, true, false, None, List, [], ◌∷◌, length, inl, inr}
+use Rattle.std.proofs.Common.{arith, ◌≡◌, ℕ, Bool, true, false, None, List, length, inl, inr}
 use Rattle.std.specs.Prelude.{All, MatchBool, slice_get}
 use Rattle.std.proofs.lemmas.Option.{slice_get_cases}
 use Rattle.git_names.specs.declared.object_format.Format.{Format}

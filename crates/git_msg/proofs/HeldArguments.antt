@@ -1,13 +1,10 @@
 -- The lists that are stored of a request are its arguments in their order, and looking up in these finds what is stored.
 use Rattle.std.proofs.Common.{arith, ◌≡◌, ℕ, ◌+◌, ◌<◌, ◌≤◌, subst, ◌==◌, ◌||◌, Bool, true, false, Option, Some, None, List, [], ◌∷◌, ◌++◌, map, refl, sym}
-use Rattle.std.proofs.Common.{ap, append-nil, inl, inr, ◌∙◌, add-one, drop, drop-cons, get_or, length, if◌then◌else◌}
-use Rattle.std.specs.Prelude.{All, Vec, set, slice_get, sum_by}
+use Rattle.std.proofs.Common.{ap, append-nil, ◌∙◌, add-one, drop, drop-cons, get_or, length, if◌then◌else◌}
+use Rattle.std.specs.Prelude.{All, set, slice_get, sum_by}
 use Rattle.std.proofs.Common.{◌-◌, suc, zero}
 use Rattle.std.specs.List.{filter_map, flat_map}
-use Rattle.std.proofs.lemmas.Bool.{cases_eq}
-use Rattle.std.proofs.lemmas.Grind.{common_steps, get_or-set_at}
-use Rattle.std.proofs.Math.Seq.{map-set_same}
-use Rattle.std.proofs.lemmas.List.{map-append, map-set, length-map, get_or-map, get_or-set_other}
+use Rattle.std.proofs.lemmas.List.{map-append}
 use Rattle.std.proofs.lemmas.List.Elements.{All-nil, All-cons, All-filter, All-map}
 use Rattle.std.proofs.lemmas.List.Sums.{sum_by-append}
 use Rattle.git_names.specs.ObjectName.{ObjectName}
@@ -22,13 +19,13 @@ use Rattle.git_msg.specs.declared.words.ObjectWord.{ObjectWord}
 use Rattle.git_msg.specs.declared.words.TextWord.{TextWord}
 use Rattle.git_msg.specs.declared.words.NumberWord.{NumberWord}
 use Rattle.git_msg.specs.Arguments.{Arg, alone, with_id, with_number, with_text, words}
-use Rattle.git_msg.specs.Asked.{is_word, is_of, of_word, last_counts, all_or_last, AreInOrder, flag_among, value_in}
+use Rattle.git_msg.specs.Asked.{is_word, is_of, last_counts, all_or_last, AreInOrder, flag_among, value_in}
 use Rattle.git_msg.specs.Asked.{id_of, ids, number, number_of, text_of, texts, where_asked, where_given, with_one}
 use Rattle.git_msg.specs.Machine.ArgumentLists.{held, held_at, ids_at, is_held, number_at, number_place, object_place, place_of}
 use Rattle.git_msg.specs.Machine.PlacedLists.{items_at, items_in, lists_of}
 use Rattle.git_msg.specs.Machine.TextPools.{text_place, where_same}
 use Rattle.git_msg.specs.Machine.HeldTexts.{texts_of}
-use Rattle.git_msg.specs.Prefixes.{IsOrdered, ShowAlike, is_shown}
+use Rattle.git_msg.specs.Prefixes.{ShowAlike, is_shown}
 use Rattle.git_msg.specs.Texts.{last_of}
 use Rattle.git_msg.proofs.HeadWords.{itself, same_word}
 use Rattle.git_msg.proofs.PlacedLists.{nothing_at, replaced}

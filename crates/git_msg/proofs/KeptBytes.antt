@@ -1,8 +1,7 @@
 -- The bytes stored of a request are counted with each further argument, and what follows for its arguments in their order.
 use Rattle.std.proofs.Common.{arith, refl, Bool, true, false, Bor, if◌then◌else◌, ◌≡◌, ℕ, ◌+◌, ◌<◌, ◌≤◌, ◌^◌, Option, Some, None, List, [], ◌∷◌, ◌++◌, ap, sym, subst, rules}
 use Rattle.std.proofs.Common.{length, option_map, length-append}
-use Rattle.std.specs.Prelude.{All, IfSome, OnErr, OnOk, OnSome, Result, Ok, Err, slice_get}
-use Rattle.git_pkt.specs.declared.fault.Kind.{Kind}
+use Rattle.std.specs.Prelude.{All, IfSome, OnSome, slice_get}
 use Rattle.std.specs.Option.{option_copied}
 use Rattle.std.proofs.lemmas.List.Elements.{All-push, All-weaker}
 use Rattle.std.proofs.lemmas.List.Sums.{sum_by-cons}
@@ -21,7 +20,7 @@ use Rattle.git_msg.specs.declared.words.NumberWord.{NumberWord}
 use Rattle.git_names.specs.ObjectName.{hex_of}
 use Rattle.git_msg.specs.Arguments.{Arg, alone, with_id, with_text, with_number, row, word_of, command_with, shown}
 use Rattle.git_msg.specs.Arguments.{IsInRange, IsNumberOf, IsTextOf, IsValue, stored_in, written_text, written_value}
-use Rattle.git_msg.specs.Asked.{Asked, AreInOrder, HasValues, arguments_in, bytes_of, command_asked, is_word, text_in, texts, with_one, written}
+use Rattle.git_msg.specs.Asked.{Asked, AreInOrder, HasValues, arguments_in, bytes_of, command_asked, is_word, text_in, texts, with_one}
 use Rattle.git_msg.specs.Kept.{Kept, AreOf, IsSound, KeepsOne}
 use Rattle.git_msg.proofs.FoundParts.{All-filter_map}
 use Rattle.git_msg.proofs.HeadWords.{same_word}

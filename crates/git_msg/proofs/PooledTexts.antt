@@ -1,5 +1,5 @@
 -- A pool of texts with one text more.
-use Rattle.std.proofs.Common.{◌≡◌, ℕ, suc, ◌+◌, ◌*◌, ◌/◌, ◌%◌, ◌<◌, ◌==◌, Bool, true, false, List, [], ◌∷◌, ◌++◌, All, get_or, length, map, refl, arith, length-drop, rules}
+use Rattle.std.proofs.Common.{◌≡◌, ℕ, suc, ◌+◌, ◌/◌, ◌%◌, ◌<◌, ◌==◌, Bool, true, false, List, [], ◌∷◌, ◌++◌, All, length, map, refl, arith, length-drop, rules}
 use Rattle.std.proofs.Common.{ap, append-nil, if◌then◌else◌, subst, sym, ◌∙◌}
 use Rattle.std.proofs.Math.Seq.{take-length, drop-append_seam}
 use Rattle.std.proofs.lemmas.List.{append_assoc, length-append, take-append-le, drop-append-le, get_or_append_left, get_or-append-add, map-append}

@@ -1,6 +1,6 @@
 -- Sorted lists of texts, and the names that they show.
 use Rattle.std.proofs.Common.{◌≡◌, ℕ, zero, suc, ◌-◌, ◌==◌, ◌<◌, ◌≤◌, Bool, true, false, ◌||◌, if◌then◌else◌, inl, inr, List, [], ◌∷◌, All, length, rules}
-use Rattle.std.proofs.Common.{map, nat_eq, slice_index_or, refl, sym, ap, ◌∙◌, subst, arith}
+use Rattle.std.proofs.Common.{map, nat_eq, slice_index_or, refl, sym, ap, subst, arith}
 use Rattle.std.specs.List.{list_any, starts_with, AllPairs, dedup, dedup_from}
 use Rattle.std.specs.List.Sorted.{IsPermutation, IsSortedBy, IsPartitionedBy, IsPartitionPoint}
 use Rattle.std.specs.Ordering.{is_lt}

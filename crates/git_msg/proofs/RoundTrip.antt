@@ -1,12 +1,11 @@
 -- The written form of a request reads back.
-use Rattle.std.proofs.Common.{arith, ◌≡◌, ◌≢◌, ℕ, ◌+◌, ◌<◌, ◌≤◌, Bool, true, false, Some, None, List, [], ◌∷◌, ◌++◌, refl, ap, sym, rules}
-use Rattle.std.proofs.Common.{◌∙◌, ◌^◌, subst, length, slice_index, codes, decimal}
+use Rattle.std.proofs.Common.{arith, ◌≡◌, ◌≢◌, ℕ, ◌+◌, ◌≤◌, Bool, true, false, Some, None, List, [], ◌∷◌, ◌++◌, refl, ap, sym, rules}
+use Rattle.std.proofs.Common.{◌∙◌, subst, length, slice_index, codes}
 use Rattle.std.specs.Prelude.{All, IsTrue, map}
 use Rattle.std.proofs.lemmas.List.{append-nil}
 use Rattle.std.proofs.lemmas.List.Elements.{All-head, All-tail}
 use Rattle.std.proofs.lemmas.List.Sums.{sum_by-cons}
 use Rattle.git_names.specs.ObjectFormat.{name_of as format_name}
-use Rattle.git_names.specs.ObjectName.{ObjectName, IsObjectName, hex_of}
 use Rattle.git_names.specs.declared.object_format.Format.{Format}
 use Rattle.git_names.specs.declared.object_format.Format.TheVariants.{Sha1, Sha256}
 use Rattle.git_pkt.specs.Packets.{Pkt, flush, delim}

@@ -1,5 +1,5 @@
 -- A key is one, and a text is one argument or has one error.
-use Rattle.std.proofs.Common.{arith, ◌≡◌, ◌≢◌, ℕ, ◌<◌, ◌≤◌, ◌⊎◌, false, List, [], ◌++◌, refl, ap, sym, ◌∙◌, subst, length, inl, inr, rules}
+use Rattle.std.proofs.Common.{arith, ◌≡◌, ◌≢◌, ℕ, ◌<◌, ◌≤◌, ◌⊎◌, false, List, ap, sym, ◌∙◌, subst, length, inl, inr, rules}
 use Rattle.std.proofs.lemmas.Bool.{false_from_ne_true}
 use Rattle.std.proofs.lemmas.Slice.Eq.{bytes_eq-Decides}
 use Rattle.std.specs.Str.{bytes_eq}
@@ -14,7 +14,7 @@ use Rattle.git_msg.specs.declared.words.Word.{Word}
 use Rattle.git_msg.specs.declared.words.Word.TheVariants.{Flag as of_flag, Object as of_object, Text as of_text, Number as of_number}
 use Rattle.git_msg.specs.declared.words.TextWord.{TextWord}
 use Rattle.git_msg.specs.Arguments.{Arg, alone, with_id, with_text, with_number, word_of, line_of, least_text, most_text, refusal_of, IsTextOf, IsNoTextOf}
-use Rattle.git_msg.specs.Arguments.{HasArgument, StatesValue, IsArgument, ReadsAs, IsNoArgument, IsNoValue, IsUnoffered, IsTextFault, IsArgumentFault, IsRowFault}
+use Rattle.git_msg.specs.Arguments.{HasArgument, StatesValue, IsArgument, ReadsAs, IsNoArgument, IsNoValue, IsTextFault, IsArgumentFault, IsRowFault}
 use Rattle.git_msg.specs.Lines.{IsWordOf, key_by}
 use Rattle.git_msg.proofs.DigitValues.{one_number}
 use Rattle.git_msg.proofs.HeadWords.{HasValue, one_value, one_word}

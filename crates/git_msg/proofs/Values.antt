@@ -1,5 +1,5 @@
 -- An argument that a program adds passes the checks, or is refused with one error.
-use Rattle.std.proofs.Common.{arith, ◌≡◌, sym, ◌∙◌, inl, inr, rules}
+use Rattle.std.proofs.Common.{◌≡◌, sym, ◌∙◌, inl, inr, rules}
 use Rattle.git_names.specs.declared.object_format.Format.{Format}
 use Rattle.git_pkt.specs.declared.fault.Kind.{Kind}
 use Rattle.git_msg.specs.declared.arguments.Command.{Command}

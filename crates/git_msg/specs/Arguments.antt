@@ -8,7 +8,6 @@ use Rattle.git_pkt.specs.declared.fault.Kind.TheVariants.{UnknownArgument, BadLi
 use Rattle.git_msg.specs.declared.arguments.Command.{Command}
 use Rattle.git_msg.specs.declared.arguments.Command.TheVariants.{LsRefs, Fetch, ObjectInfo}
 use Rattle.git_msg.specs.declared.arguments.Argument.{Argument}
-use Rattle.git_msg.specs.declared.arguments.Argument.TheVariants as Argument
 use Rattle.git_msg.specs.declared.flags.Flag.{Flag}
 use Rattle.git_msg.specs.declared.words.Word.{Word}
 use Rattle.git_msg.specs.declared.words.Word.TheVariants.{Flag as of_flag, Object as of_object, Text as of_text, Number as of_number}

@@ -116,6 +116,8 @@ impl<A: Allocator + Copy> Listing<A> {
         requires split { SplitsAt (ref_prefixes_in self.now.asked) name.now split }
         ensures { result ≡ is_shown (ref_prefixes_in self.now.asked) name.now }
     {
-        self.arguments().texts().shows_at(TextWord::RefPrefix, split, name)
+        self.arguments()
+            .texts()
+            .shows_at(TextWord::RefPrefix, split, name)
     }
 }

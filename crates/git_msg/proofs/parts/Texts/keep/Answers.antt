@@ -25,7 +25,7 @@ invariant_of-self-in-Err g c =
     rw (start, c.in_ok-append.ensures.ok) (cut_back c.args.self.now.bytes.items (pooled c.args.text.now)) in
     record {
       sound = ends_same c.args.self.now.bytes.items c.truncate.new.self.items c.args.self.now.ends c.push.new.self (c.truncate.ensures.items ∙ back)
-        c.in-Err.ensures.err.0 c.args.self.now.sound;
+          c.in-Err.ensures.err.0 c.args.self.now.sound;
     }
 
 pub returns-in-Ok-clause-ok : goal.returns-in-Ok-clause-ok
@@ -38,9 +38,10 @@ pub returns-in-Err-clause-err : goal.returns-in-Err-clause-err
 returns-in-Err-clause-err g c =
     let start : c.len-start.result ≡ length c.args.self.now.bytes.items = search rules in
     let back : take c.len-start.result c.append.new.bytes.items ≡ c.args.self.now.bytes.items =
-    rw (start, c.in_ok-append.ensures.ok) (cut_back c.args.self.now.bytes.items (pooled c.args.text.now)) in
-    (λ of. rw (c.truncate.ensures.items ∙ back, c.in-Err.ensures.err.0 (text_place of)) refl,
-    omega (arith, ap length (c.truncate.ensures.items ∙ back), c.in-Err.ensures.err.1))
+    rw (start, c.in_ok-append.ensures.ok) (cut_back c.args.self.now.bytes.items (pooled c.args.text.now)) in (
+      λ of. rw (c.truncate.ensures.items ∙ back, c.in-Err.ensures.err.0 (text_place of)) refl,
+      omega (arith, ap length (c.truncate.ensures.items ∙ back), c.in-Err.ensures.err.1),
+    )
 
 pub returns-in-Err-clause-memory : goal.returns-in-Err-clause-memory
 returns-in-Err-clause-memory g c = refused_within _ _ _ (omega arith) c.in-Err.ensures.memory

@@ -1,4 +1,4 @@
-use Rattle.std.proofs.Common.{arith, ◌≡◌, option_map, true, sym, ap, refl, ◌∙◌, rules}
+use Rattle.std.proofs.Common.{arith, ◌≡◌, option_map, true, sym, ap, refl, ◌∙◌}
 use Rattle.std.proofs.lemmas.List.Elements.{All-nil}
 use Rattle.std.proofs.lemmas.Option.{slice_get_within}
 use Rattle.git_msg.specs.Arguments.{Arg, is_offered, shown}
