@@ -47,8 +47,3 @@ chosen_fits false n bytes = omega arith
 
 pub text_fits : (bytes : List ℕ) → length (text_of bytes) ≤ length bytes
 text_fits bytes = chosen_fits _ (length bytes - 1) bytes
-
--- a request stays bounded with an argument that fits within the limit and is counted with at least its written form
-pub still_bounded : {A : Type 0} (offer : Offer) (old new : Request A) (arg : Arg) (long : ℕ) → IsBounded offer old → IsInRange (format_of old) arg
-    → length (written_text arg) ≤ long → kept_of old + long ≤ limit_of old → Keeps old arg long new → IsBounded offer new
-still_bounded offer old new arg long h range counted fits k = search (rules, stored_fits)

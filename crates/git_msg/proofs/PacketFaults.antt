@@ -111,12 +111,6 @@ pub not_for_memory_by_capability : (offer : Offer) (first : Bool) (text : List �
     → Refuses (capability_checks offer first text) kind → kind ≢ OutOfMemory
 not_for_memory_by_capability offer first text = otherwise OutOfMemory (capability_checks offer first text) (quiet_capability OutOfMemory tt offer first text)
 
-pub not_for_memory_by_text : (c : Command) (offer : Offer) (text : List ℕ) (kind : Kind) → Refuses (text_checks c offer text) kind → kind ≢ OutOfMemory
-not_for_memory_by_text c offer text = otherwise OutOfMemory (text_checks c offer text) (quiet_text OutOfMemory tt c offer text)
-
-pub not_for_memory_by_end : (asked : Asked) (kind : Kind) → Refuses (end_checks asked) kind → kind ≢ OutOfMemory
-not_for_memory_by_end asked = otherwise OutOfMemory (end_checks asked) (quiet_end OutOfMemory tt asked)
-
 module _ (kind : Kind) (strange : NotOfPackets kind) where
   itself : NotByItself kind
   itself = not_by_itself kind strange
