@@ -1,15 +1,14 @@
 -- A request that keeps one more argument.
-use Rattle.std.proofs.Common.{arith, ◌≡◌, ℕ, ◌+◌, ◌≤◌, Bool, true, List, [], ◌∷◌, ◌++◌, ◌-◌, false, cond, take, rules}
+use Rattle.std.proofs.Common.{arith, ◌≡◌, ℕ, ◌≤◌, Bool, true, List, [], ◌∷◌, ◌++◌, ◌-◌, false, cond, take, rules}
 use Rattle.std.proofs.Common.{ap, length, ◌∙◌}
 use Rattle.std.proofs.lemmas.List.{append-nil, length-take}
 use Rattle.git_pkt.specs.Packets.{text_of}
 use Rattle.git_names.specs.declared.object_format.Format.{Format}
-use Rattle.git_msg.specs.declared.offers.Offer.{Offer}
 use Rattle.git_msg.specs.declared.requests.Request.{Request}
 use Rattle.git_msg.specs.declared.reader.RequestReader.{RequestReader}
-use Rattle.git_msg.specs.Arguments.{Arg, alone, with_id, with_text, with_number, word_of, HasArgument, StatesValue, IsInRange, written_text, written_value}
-use Rattle.git_msg.proofs.KeptBytes.{small_number, stored_fits}
-use Rattle.git_msg.specs.Machine.HeldRequest.{asked_of, command_of, format_of, kept_of, limit_of, IsBounded, Keeps}
+use Rattle.git_msg.specs.Arguments.{Arg, alone, with_id, with_text, with_number, word_of, HasArgument, StatesValue, written_text, written_value}
+use Rattle.git_msg.proofs.KeptBytes.{small_number}
+use Rattle.git_msg.specs.Machine.HeldRequest.{asked_of, command_of, IsBounded, Keeps}
 use Rattle.git_msg.specs.Asked.{command_asked}
 use Rattle.git_msg.specs.Lines.{Line, argument}
 use Rattle.git_msg.specs.Machine.RequestReader.{InArguments}

@@ -19,8 +19,8 @@ use Rattle.git_msg.specs.declared.words.TextWord.{TextWord}
 use Rattle.git_msg.specs.declared.words.NumberWord.{NumberWord}
 use Rattle.git_names.specs.ObjectName.{hex_of}
 use Rattle.git_msg.specs.Arguments.{Arg, alone, with_id, with_text, with_number, row, word_of, command_with, shown}
-use Rattle.git_msg.specs.Arguments.{IsInRange, IsNumberOf, IsTextOf, IsValue, stored_in, written_text, written_value}
-use Rattle.git_msg.specs.Asked.{Asked, AreInOrder, HasValues, arguments_in, bytes_of, command_asked, is_word, text_in, texts, with_one}
+use Rattle.git_msg.specs.Arguments.{IsInRange, IsNumberOf, IsTextOf, stored_in, written_text, written_value}
+use Rattle.git_msg.specs.Asked.{bytes_of, is_word, text_in, texts, with_one}
 use Rattle.git_msg.specs.Kept.{Kept, AreOf, IsSound, KeepsOne}
 use Rattle.git_msg.proofs.FoundParts.{All-filter_map}
 use Rattle.git_msg.proofs.HeadWords.{same_word}
@@ -102,14 +102,6 @@ stays_sound old new arg long h range counted space keeps =
 pub stay_of : (command : Command) (args : List Arg) (arg : Arg) → AreOf command args → command_with arg ≡ command → AreOf command (with_one args arg)
 stay_of command args arg all of =
     all_written (λ a. command_with a ≡ command) (args ++ arg ∷ []) (All-push (λ a. command_with a ≡ command) args arg all of)
-
--- so the values of a request of the command are allowed there
-pub has_values : (format : Format) (asked : Asked) (args : List Arg) → arguments_in asked ≡ args → AreOf (command_asked asked) args
-    → All (IsInRange format) args → AreInOrder args → HasValues format asked
-has_values format asked args are of ranges in_order = record {
-  allowed = subst (All (IsValue (command_asked asked) format)) (sym are) (λ i d within. (of i d within, ranges i d within));
-  in_order = subst AreInOrder (sym are) in_order;
-}
 
 -- few bytes are stored of an argument
 pub stored_short : (format : Format) (arg : Arg) → IsInRange format arg → stored_in arg ≤ 65535
