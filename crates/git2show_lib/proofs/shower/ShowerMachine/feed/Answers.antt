@@ -20,7 +20,8 @@ returns-in_default-clause-some g c = λ some. inl (used_some _ c.in_default.is (
 pub returns-in_default-clause-reaches : goal.returns-in_default-clause-reaches
 returns-in_default-clause-reaches g c =
     reaches_used g.V.Renderer.view c.args.self.now _ c.args.self.now.phase c.gather-gathered.ensures.gathers c.args.from c.requires.0
-    (λ over. subst (λ (p : Phase). StandsIn p c.gather-gathered.new.packets over) (sym c.requires.1.gathering) (c.gather-gathered.ensures.fault ∙ c.in_default.is))
+    (λ over. subst (λ (p : Phase). StandsIn p c.gather-gathered.new.packets over) (sym c.requires.1.gathering)
+    (c.gather-gathered.ensures.fault ∙ c.in_default.is))
 
 pub returns-in_default-clause-short : goal.returns-in_default-clause-short
 returns-in_default-clause-short g c = λ reachable short. absurd (waits_in_time c.args.self.now c.requires.1 short.1)

@@ -127,4 +127,5 @@ pub returns-clause-credit : goal.returns-clause-credit
 returns-clause-credit g c =
     let w = c.put_reported.new.hold in
     let lent = on_some c.lend.result c.in-Some-lend.hold _ c.in-Some-lend.is (c.lend.follows.holds w) in
-    falls c.args.self.now c.in-Answering.answer c.take_reference.new.self c.in-Answering.is w (c.lend.follows.lender w) lent (Answering c.take_reference.new.self)
+    falls c.args.self.now c.in-Answering.answer c.take_reference.new.self c.in-Answering.is w (c.lend.follows.lender w)
+    lent (Answering c.take_reference.new.self)

@@ -42,7 +42,8 @@ returns-in-Unsorted g c =
           λ q t given h.
               let at = entries_of old.place old.format q t (last_name old.last) given c.in_default-place.not-Whole h.stands in
               unsound_order old.format t (last_name old.last) entry at.last_is
-              (ap (comes_after (last_name old.last)) same ∙ judged_unsorted (last_name old.last) c.args.name.now c.judge_name-found.result c.in-Unsorted.is found),
+              (ap (comes_after (last_name old.last)) same
+              ∙ judged_unsorted (last_name old.last) c.args.name.now c.judge_name-found.result c.in-Unsorted.is found),
         ),
       );
       memory = λ is. absurd (cc is);
@@ -114,7 +115,8 @@ returns g c =
               let is_last : last_name c.keep.new.self ≡ Some entry.name = kept_name ∙ ap Some (sym same) in
               let packet = reference_packet q.symrefs q.peel entry in (
                 packet,
-                subst (λ (p : Pkt). Holds (spelling_of (reference_packet (symrefs_of old) (peel_of old) entry)) p) (packet_alike q old.listing.asked entry h.alike)
+                subst (λ (p : Pkt). Holds (spelling_of (reference_packet (symrefs_of old) (peel_of old) entry)) p)
+                    (packet_alike q old.listing.asked entry h.alike)
                     (entry_held (symrefs_of old) (peel_of old) entry (subst (λ (n : List ℕ). IsNamed n entry.target) (sym same) names)),
                 record {
                   alike = alike;
