@@ -11,6 +11,7 @@ loop-run-preserved c =
     let steps = c.in-Some.ensures.steps in
     record {
       size = steps.0 ∙ so_far.size;
-      within = still_within c.loop-run.end c.write_run-end.result (c.args.at + 4 * length c.args.bytes.now) _ _ steps.1.0 so_far.within c.write_run-end.ensures.within;
+      within = still_within c.loop-run.end c.write_run-end.result (c.args.at + 4 * length c.args.bytes.now) _ _ steps.1.0
+          so_far.within c.write_run-end.ensures.within;
       escaped = escaped_more so_far.escaped _ _ _ steps.1.0 c.write_run-end.ensures.escaped;
     }
