@@ -7,7 +7,7 @@ ghost use Rattle.git_client.specs.Machine.Client.{can_ask, wants_input};
 
 use crate::CHUNK_BYTES;
 use git_client::{Client, Ending, Event, ReceivedGot, Sent};
-use git_msg::{Argument, Command, Flag, Limits, Request};
+use git_msg::{Argument, Command, Flag, Limits, ObjectWord, Request};
 use git_names::{Format, Oid, Steps};
 use git_pkt::{Fault, Kind, RunFault};
 use std::alloc::Global;
@@ -61,8 +61,8 @@ impl Counts {
 fn request(alloc: Global) -> Result<Request<Global>, Kind> {
     let wanted = Oid::read(Format::Sha1, WANTED, &mut Steps::new())?;
     let mut request = Request::new(alloc, Command::Fetch, Format::Sha1, Limits::DEFAULT);
-    request.add(Argument::Want(wanted))?;
-    request.add(Argument::Flag(Flag::Done))?;
+    request.add(&Argument::Object(ObjectWord::Want, wanted))?;
+    request.add(&Argument::Flag(Flag::Done))?;
     Ok(request)
 }
 

@@ -4,7 +4,7 @@ use Rattle.std.proofs.Common.{◌++◌, length, codes, inl, inr, ◌⊎◌, refl
 use Rattle.git_names.specs.declared.object_format.Format.{Format}
 use Rattle.git_pkt.specs.Packets.{Pkt, flush, flushes}
 use Rattle.git_pkt.specs.Splits.{Given}
-use Rattle.git_msg.specs.Asked.{Asked, ls_refs, fetch, object_info}
+use Rattle.git_msg.specs.Asked.{Asked, ls_refs, fetch, object_info, ref_prefixes_in, peel_in, symrefs_in}
 use Rattle.git_msg.specs.WrittenRequest.{text_line, agent_line, format_line, lines_written}
 use Rattle.git_msg.specs.declared.offers.Caps.{Caps}
 use Rattle.git_msg.specs.declared.offers.Offer.{Offer}
@@ -14,13 +14,13 @@ use Rattle.git_server.specs.Answers.{advertisement_of, offered_line, fetch_line,
 use Rattle.git_server.specs.FetchAnswers.{EndsWithBoundary, EndsWithRefs, IsAfter, IsFetchAnswerBy, IsNegotiated, acknowledgments, is_ready_for, negotiates}
 use Rattle.git_server.specs.Packs.{IsPackfile, packfile_header, whole}
 use Rattle.git_server.specs.Repository.{Repository}
-use Rattle.git_msg.specs.Asked.{FetchAsked}
 use Rattle.git_server.specs.Sessions.{Setting, AreAnswers, advertised}
 use Rattle.git_server.proofs.AtRest.{EndsWithFlush, packets_of}
 use Rattle.git_server.proofs.Flushes.{flushes-append}
 use Rattle.git_server.proofs.OneSession.{line_is_unsent}
 use Rattle.git_laws.proofs.RequestsReceived.{lines_clear, lines_end, lines_of}
 use Rattle.git_server.specs.declared.advertisement.AdvertisementLine.TheVariants.{Version}
+use Rattle.git_msg.specs.Arguments.{Arg}
 
 -- ---- lists whose last packet is a flush
 
@@ -98,25 +98,25 @@ packfile_last : (pack : List ℕ) (packets : List Pkt) → IsPackfile whole pack
 packfile_last pack packets h =
     last_as packets (packfile_header ∷ h.tail) h.packets_are (last_more packfile_header h.tail (record { front = h.ends.bands; is = h.ends.packets_are }))
 
-refs_last : (repo : Repository) (q : FetchAsked) (packets : List Pkt) → EndsWithRefs whole repo q packets → LastFlush packets
+refs_last : (repo : Repository) (q : List Arg) (packets : List Pkt) → EndsWithRefs whole repo q packets → LastFlush packets
 refs_last repo q packets = after_last _ (IsPackfile whole (repo.pack q)) packets (packfile_last (repo.pack q))
 
-boundary_last : (repo : Repository) (q : FetchAsked) (packets : List Pkt) → EndsWithBoundary whole repo q packets → LastFlush packets
+boundary_last : (repo : Repository) (q : List Arg) (packets : List Pkt) → EndsWithBoundary whole repo q packets → LastFlush packets
 boundary_last repo q packets = after_last _ (EndsWithRefs whole repo q) packets (refs_last repo q)
 
-negotiated_last : (ready : Bool) (repo : Repository) (q : FetchAsked) (lines packets : List Pkt) → IsNegotiated ready lines whole repo q packets
+negotiated_last : (ready : Bool) (repo : Repository) (q : List Arg) (lines packets : List Pkt) → IsNegotiated ready lines whole repo q packets
     → LastFlush packets
 negotiated_last true repo q lines packets h = after_last _ (EndsWithBoundary whole repo q) packets (boundary_last repo q) h
 negotiated_last false repo q lines packets h = record { front = lines; is = h }
 
-fetch_last : (repo : Repository) (q : FetchAsked) (b : Bool) (packets : List Pkt) → IsFetchAnswerBy b whole repo q packets → LastFlush packets
+fetch_last : (repo : Repository) (q : List Arg) (b : Bool) (packets : List Pkt) → IsFetchAnswerBy b whole repo q packets → LastFlush packets
 fetch_last repo q true packets h = negotiated_last (is_ready_for repo q) repo q (acknowledgments repo q) packets h
 fetch_last repo q false packets h = boundary_last repo q packets h
 
 answer_last : (repo : Repository) (q : Asked) (packets : List Pkt) → IsAnswer repo q packets → LastFlush packets
 answer_last repo (ls_refs q) packets h =
     let unborn = unborn_packets q repo.unborn_head in
-    let shown = map (reference_packet q.symrefs q.peel) (shown_refs q.ref_prefixes repo.refs) in
+    let shown = map (reference_packet (symrefs_in q) (peel_in q)) (shown_refs (ref_prefixes_in q) repo.refs) in
     record { front = unborn ++ shown; is = h ∙ sym (append_assoc unborn shown (flush ∷ [])) }
 answer_last repo (object_info q) packets h = record { front = _ ∷ _; is = h }
 answer_last repo (fetch q) packets h = fetch_last repo q (negotiates q) packets h

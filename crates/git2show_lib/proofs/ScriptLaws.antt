@@ -4,11 +4,10 @@ use Rattle.git_pkt.specs.declared.fault.Kind.TheVariants.{UnknownArgument}
 use Rattle.git_msg.specs.declared.offers.Offer.{Offer}
 use Rattle.git_msg.specs.declared.arguments.Command.{Command}
 use Rattle.git_msg.specs.declared.arguments.Command.TheVariants.{LsRefs, Fetch, ObjectInfo}
-use Rattle.git_msg.specs.declared.flags.Flag.{Flag}
-use Rattle.git_msg.specs.Arguments.{Arg, IsNoArgument, ReadsAs, name_of}
-use Rattle.git_msg.specs.Flags.{flag_row}
+use Rattle.git_msg.specs.Arguments.{Arg, ReadsAs, name_of}
 use Rattle.git_msg.specs.Asked.{Asked}
 use Rattle.git_msg.specs.Kept.{Kept}
+use Rattle.git_msg.proofs.HeadWords.{none_named}
 use Rattle.git_msg.proofs.ItemLaws.{items_or_bad, one_bad, one_list}
 use Rattle.git_msg.proofs.Rows.{argument_or_fault, one_argument}
 use Rattle.git_repository.specs.RepositoryLines.{lines_of}
@@ -26,18 +25,9 @@ no_command LsRefs e = cc
 no_command Fetch e = cc
 no_command ObjectInfo e = cc
 
-some_text : (flag : Flag) → [] ≡ (flag_row flag).text → ⊥
-some_text Flag.Size e = cc
-some_text flag e = cc
-
 -- and is no argument
-nothing : (c : Command) → IsNoArgument c []
-nothing LsRefs = ((λ flag of e. some_text flag e), search rules)
-nothing Fetch = ((λ flag of e. some_text flag e), search rules)
-nothing ObjectInfo = ((λ flag of e. some_text flag e), search rules)
-
 no_argument : (c : Command) (offer : Offer) (arg : Arg) → ReadsAs c offer [] arg → ⊥
-no_argument c offer arg h = argument_or_fault c offer [] arg UnknownArgument h (inl (nothing c, refl))
+no_argument c offer arg h = argument_or_fault c offer [] arg UnknownArgument h (inl (inl (none_named c [] tt, refl)))
 
 -- a text is one line at most after those before it
 one_line : (offer : Offer) (limit : ℕ) (before : List ScriptLine) (text : List ℕ) (a b : ScriptLine) → MayFollow offer limit before text a

@@ -16,12 +16,12 @@ use Rattle.git_msg.specs.declared.arguments.Command.{Command}
 use Rattle.git_msg.specs.declared.arguments.Command.TheVariants.{LsRefs, Fetch, ObjectInfo}
 use Rattle.git_msg.specs.declared.requests.Request.{Request}
 use Rattle.git_msg.specs.Arguments.{Arg, IsArgumentFault, IsInRange, ReadsAs, name_of, stored_in, written_text}
-use Rattle.git_msg.specs.Asked.{Asked, asked_by, nothing_asked, with_argument}
+use Rattle.git_msg.specs.Asked.{Asked, asked_by, command_asked, nothing_asked, with_argument}
 use Rattle.git_msg.specs.Checks.{Passes, Refuses}
 use Rattle.git_msg.specs.Machine.HeldRequest.{IsEmpty, Keeps, add_checks, command_of, format_of, holding_of, limit_of}
 use Rattle.git_msg.specs.Memory.{HasRefused}
-use Rattle.git_msg.specs.Kept.{IsNew, Kept, KeepsArgument}
-use Rattle.git_msg.proofs.ArgumentsInOrder.{asked_snoc}
+use Rattle.git_msg.specs.Kept.{Adds, IsNew, Kept}
+use Rattle.git_msg.proofs.ArgumentsInOrder.{asked_snoc, command_for, same_command}
 use Rattle.git_msg.proofs.AskedValues.{conveys_in_range}
 use Rattle.git_msg.proofs.Rows.{argument_or_fault, one_argument}
 use Rattle.git_msg.proofs.Values.{added_or_refused}
@@ -60,12 +60,12 @@ same_kept k l formats asks counts limits sizes =
     ∙ ap (λ (n : ℕ). record { format = l.format; asked = l.asked; kept = l.kept; limit = l.limit; stored = n }) sizes
 
 -- a new request has no arguments
-new_request : (c : Command) (format : Format) (limit : ℕ) (k : Kept Asked) → IsNew c format limit k → k ≡ request_of format limit c []
+new_request : (c : Command) (format : Format) (limit : ℕ) (k : Kept Asked) → IsNew (nothing_asked c) format limit k → k ≡ request_of format limit c []
 new_request c format limit k new = same_kept k (request_of format limit c []) new.format_is (new.asked ∙ nothing_yet c) new.kept new.limit_is new.stored
 
 -- and one that keeps an argument more has it after the others
 request_more : (c : Command) (format : Format) (limit : ℕ) (args : List Arg) (arg : Arg) (old new : Kept Asked) → old ≡ request_of format limit c args
-    → KeepsArgument old arg (length (written_text arg)) new → new ≡ request_of format limit c (args ++ arg ∷ [])
+    → Adds with_argument old arg (length (written_text arg)) new → new ≡ request_of format limit c (args ++ arg ∷ [])
 request_more c format limit args arg old new is keeps =
     same_kept new (request_of format limit c (args ++ arg ∷ []))
     (keeps.format ∙ ap (λ (k : Kept Asked). k.format) is)
@@ -137,7 +137,7 @@ module _ {A : Type 0} where
         others = old.requests;
         last = request;
         requests_are = refl;
-        open_is = open_more lines (command of) ∙ ap (λ (c : Command). Some c) (sym empty.command_is);
+        open_is = open_more lines (command of) ∙ ap (λ (c : Command). Some c) (sym (ap command_asked empty.asked ∙ command_for of []));
         kept_is = kept_more lines (command of) ∙ sym empty.kept;
       };
     };
@@ -248,7 +248,7 @@ module _ {A : Type 0} where
             others = o.others;
             last = request;
             requests_are = refl;
-            open_is = open_more lines (argument arg) ∙ o.open_is ∙ ap (λ (c : Command). Some c) (sym keeps.command);
+            open_is = open_more lines (argument arg) ∙ o.open_is ∙ ap (λ (c : Command). Some c) (sym (ap command_asked keeps.asked ∙ same_command (asked_of o.last) arg));
             kept_is = kept_more lines (argument arg) ∙ ap (λ (n : ℕ). n + length (written_text arg)) o.kept_is ∙ sym keeps.kept;
           };
         };

@@ -95,7 +95,7 @@ impl<A: Memory + Copy> Script<A> {
         else {
             return Err(LineFault::Refused);
         };
-        match request.add(argument) {
+        match request.add(&argument) {
             Ok(()) => Ok(()),
             Err(kind) => match kind {
                 Kind::OutOfMemory => Err(LineFault::OutOfMemory),

@@ -1,5 +1,5 @@
 //! Requests to which arguments are added. These functions promise nothing, which keeps the proofs of the tests that call them short.
-use git_msg::{Argument, Command, Limits, Request};
+use git_msg::{Argument, Command, Limits, ObjectWord, Request, TextWord};
 use git_names::{Format, Oid};
 use git_pkt::Kind;
 use std::alloc::Allocator;
@@ -14,17 +14,17 @@ pub fn add_prefix<A: Allocator + Copy>(
     request: &mut Request<A>,
     prefix: &[u8],
 ) -> Result<(), Kind> {
-    request.add(Argument::RefPrefix(prefix))
+    request.add(&Argument::Text(TextWord::RefPrefix, prefix))
 }
 
 /// Adds a `want-ref`.
 pub fn add_name<A: Allocator + Copy>(request: &mut Request<A>, name: &[u8]) -> Result<(), Kind> {
-    request.add(Argument::WantRef(name))
+    request.add(&Argument::Text(TextWord::WantRef, name))
 }
 
 /// Adds a `filter`.
 pub fn add_filter<A: Allocator + Copy>(request: &mut Request<A>, spec: &[u8]) -> Result<(), Kind> {
-    request.add(Argument::Filter(spec))
+    request.add(&Argument::Text(TextWord::Filter, spec))
 }
 
 /// Adds a `deepen-not`.
@@ -32,17 +32,17 @@ pub fn add_revision<A: Allocator + Copy>(
     request: &mut Request<A>,
     revision: &[u8],
 ) -> Result<(), Kind> {
-    request.add(Argument::DeepenNot(revision))
+    request.add(&Argument::Text(TextWord::DeepenNot, revision))
 }
 
 /// Adds a `want`.
 pub fn add_want<A: Allocator + Copy>(request: &mut Request<A>, id: Oid) -> Result<(), Kind> {
-    request.add(Argument::Want(id))
+    request.add(&Argument::Object(ObjectWord::Want, id))
 }
 
 /// Adds a `have`.
 pub fn add_have<A: Allocator + Copy>(request: &mut Request<A>, id: Oid) -> Result<(), Kind> {
-    request.add(Argument::Have(id))
+    request.add(&Argument::Object(ObjectWord::Have, id))
 }
 
 /// How many bytes the request keeps.

@@ -1,6 +1,7 @@
 //! Answers over a store that is asked one question at a time. The packets are those that gitprotocol-v2(5) describes.
 ghost use Rattle.std.specs.Prelude.{◌≡◌, ◌<◌, true, length};
 ghost use Rattle.git_pkt.specs.Packets.{longest_payload};
+ghost use Rattle.git_msg.specs.Asked.{want_refs_in};
 
 use crate::expecting::{expect, expect_bytes};
 use crate::servers::{entry, object};
@@ -232,7 +233,7 @@ fn expect_answer(
 
 /// Whether a fetch wants exactly this many references by their names.
 fn wants_names(fetch: &Fetch<Global>, count: usize) -> bool
-    ensures { result ≡ true → count ≡ length fetch.now.asked.want_refs }
+    ensures { result ≡ true → count ≡ length (want_refs_in fetch.now.asked) }
 {
     if fetch.want_ref(count).is_some() {
         return false;

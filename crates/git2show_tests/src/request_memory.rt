@@ -3,7 +3,9 @@
 use crate::adding::{add_filter, add_prefix, add_want, bytes_kept, new_request};
 use crate::expecting::expect;
 use crate::servers::object;
-use git_msg::{AdmitsAll, Argument, Command, Flag, Limits, Offer, ReadGot, RequestReader};
+use git_msg::{
+    AdmitsAll, Argument, Command, Flag, Limits, ObjectWord, Offer, ReadGot, RequestReader, TextWord,
+};
 use git_names::{Format, Steps};
 use git_pkt::{Fault, Kind, Packet};
 use linked_list_allocator::LocalHeap;
@@ -22,7 +24,7 @@ fn offer() -> Offer {
 fn kept_within(rt: &impl Abort, alloc: Global, size: usize) -> Result<u32, AllocError> {
     let heap = LocalHeap::new(alloc, size)?;
     let mut request = new_request(&heap, Command::LsRefs, Limits { args: 1000 });
-    expect(rt, &request.add(Argument::Flag(Flag::Symrefs)), &Ok(()));
+    expect(rt, &request.add(&Argument::Flag(Flag::Symrefs)), &Ok(()));
     let mut kept = 0u32;
     for prefix in [b"refs/heads/".as_slice(), b"refs/tags/".as_slice()] {
         let before = bytes_kept(&request);
@@ -31,9 +33,13 @@ fn kept_within(rt: &impl Abort, alloc: Global, size: usize) -> Result<u32, Alloc
             Err(kind) => {
                 expect(rt, &kind, &Kind::OutOfMemory);
                 expect(rt, &bytes_kept(&request), &before);
-                expect(rt, &request.ref_prefix(kept as usize), &None);
-                assert!(rt; request.symrefs());
-                assert!(rt; !request.peel());
+                expect(
+                    rt,
+                    &request.arguments().text(TextWord::RefPrefix, kept as usize),
+                    &None,
+                );
+                assert!(rt; request.arguments().has(Flag::Symrefs));
+                assert!(rt; !request.arguments().has(Flag::Peel));
                 break;
             }
         }
@@ -68,13 +74,17 @@ const FILTERS: [&[u8]; 2] = [b"blob:limit=8", b"tree:100"];
 fn filters_within(rt: &impl Abort, alloc: Global, size: usize) -> Result<u32, AllocError> {
     let heap = LocalHeap::new(alloc, size)?;
     let mut request = new_request(&heap, Command::Fetch, Limits { args: 1000 });
-    expect(rt, &request.add(Argument::Flag(Flag::WaitForDone)), &Ok(()));
+    expect(rt, &request.add(&Argument::Flag(Flag::WaitForDone)), &Ok(()));
     let mut kept = 0u32;
     for spec in FILTERS {
         let before = bytes_kept(&request);
         match add_filter(&mut request, spec) {
             Ok(()) => {
-                expect(rt, &request.filter(kept as usize), &Some(spec));
+                expect(
+                    rt,
+                    &request.arguments().text(TextWord::Filter, kept as usize),
+                    &Some(spec),
+                );
                 kept = kept.saturating_add(1);
             }
             Err(kind) => {
@@ -84,8 +94,12 @@ fn filters_within(rt: &impl Abort, alloc: Global, size: usize) -> Result<u32, Al
             }
         }
     }
-    expect(rt, &request.filter(kept as usize), &None);
-    assert!(rt; request.wait_for_done());
+    expect(
+        rt,
+        &request.arguments().text(TextWord::Filter, kept as usize),
+        &None,
+    );
+    assert!(rt; request.arguments().has(Flag::WaitForDone));
     Ok(kept)
 }
 
@@ -106,10 +120,22 @@ fn filters_are_kept_in_order(rt: HostRuntime) -> Result<(), AllocError> {
     }
     // Each counts with the seven bytes of its word and the space, and a repetition counts again.
     expect(&rt, &bytes_kept(&request), &53);
-    expect(&rt, &request.filter(0), &Some(FILTERS[0]));
-    expect(&rt, &request.filter(1), &Some(FILTERS[1]));
-    expect(&rt, &request.filter(2), &Some(FILTERS[0]));
-    expect(&rt, &request.filter(3), &None);
+    expect(
+        &rt,
+        &request.arguments().text(TextWord::Filter, 0),
+        &Some(FILTERS[0]),
+    );
+    expect(
+        &rt,
+        &request.arguments().text(TextWord::Filter, 1),
+        &Some(FILTERS[1]),
+    );
+    expect(
+        &rt,
+        &request.arguments().text(TextWord::Filter, 2),
+        &Some(FILTERS[0]),
+    );
+    expect(&rt, &request.arguments().text(TextWord::Filter, 3), &None);
     expect(&rt, &add_filter(&mut request, b""), &Err(Kind::BadLine));
     expect(
         &rt,
@@ -117,7 +143,7 @@ fn filters_are_kept_in_order(rt: HostRuntime) -> Result<(), AllocError> {
         &Err(Kind::TooMuchKept),
     );
     expect(&rt, &bytes_kept(&request), &53);
-    expect(&rt, &request.filter(3), &None);
+    expect(&rt, &request.arguments().text(TextWord::Filter, 3), &None);
     Ok(())
 }
 
@@ -129,15 +155,15 @@ fn wants_within(rt: &impl Abort, alloc: Global, size: usize) -> Result<usize, Al
     let heap = LocalHeap::new(alloc, size)?;
     let mut request = new_request(&heap, Command::Fetch, Limits { args: 1000 });
     let id = object(rt, Format::Sha1, b'a');
-    expect(rt, &request.add(Argument::Flag(Flag::Done)), &Ok(()));
+    expect(rt, &request.add(&Argument::Flag(Flag::Done)), &Ok(()));
     for kept in 0..MANY {
         let before = bytes_kept(&request);
         let added = add_want(&mut request, id);
         if added.is_err() {
             expect(rt, &added, &Err(Kind::OutOfMemory));
             expect(rt, &bytes_kept(&request), &before);
-            expect(rt, &request.wants().len(), &kept);
-            assert!(rt; request.done());
+            expect(rt, &request.arguments().ids(ObjectWord::Want).len(), &kept);
+            assert!(rt; request.arguments().has(Flag::Done));
             return Ok(kept);
         }
     }
@@ -212,8 +238,8 @@ fn a_reader_without_memory_refuses_the_first_prefix(rt: HostRuntime) -> Result<(
 fn a_request_of_flags_takes_no_memory(rt: HostRuntime) -> Result<(), AllocError> {
     let heap = LocalHeap::new(rt.alloc(), 0)?;
     let mut request = new_request(&heap, Command::LsRefs, Limits { args: 1000 });
-    expect(&rt, &request.add(Argument::Flag(Flag::Peel)), &Ok(()));
-    expect(&rt, &request.add(Argument::Flag(Flag::Symrefs)), &Ok(()));
+    expect(&rt, &request.add(&Argument::Flag(Flag::Peel)), &Ok(()));
+    expect(&rt, &request.add(&Argument::Flag(Flag::Symrefs)), &Ok(()));
     expect(&rt, &bytes_kept(&request), &11);
     let added = add_prefix(&mut request, b"");
     expect(&rt, &added, &Err(Kind::OutOfMemory));

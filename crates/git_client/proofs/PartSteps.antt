@@ -2,7 +2,7 @@
 use Rattle.std.proofs.Common.{arith, ◌≡◌, ℕ, suc, zero, Bool, true, List, [], ◌∷◌, Option, Some, None, ◌≢◌, false, ap, cond, refl, sym, ◌∙◌, subst}
 use Rattle.std.specs.Prelude.{slice_get}
 use Rattle.git_pkt.specs.Packets.{Pkt, flush, resp_end, flushes}
-use Rattle.git_msg.specs.Asked.{Asked, ls_refs, fetch, object_info}
+use Rattle.git_msg.specs.Asked.{Asked, ls_refs, fetch, object_info, done_in}
 use Rattle.git_client.specs.Parts.{Terms, Part, opening, advertisement, listing, sections, informing, closing, answer_to, part_after, part_of, is_end_expected}
 use Rattle.git_client.specs.Parts.{is_zero, message_of}
 use Rattle.git_client.specs.Machine.Client.{IsExpected, IsExpectedIn, awaits_end}
@@ -77,7 +77,7 @@ answers asked k None part found is = absurd (cc)
 answers asked k (Some (ls_refs q)) part found is =
     let same : listing ≡ part = cc in subst (GoesOn asked (suc k)) same (record { stays = ap answer_to found; early = refl })
 answers asked k (Some (fetch q)) part found is =
-    let same : sections q.done ≡ part = cc in subst (GoesOn asked (suc k)) same (record { stays = ap answer_to found; early = refl })
+    let same : sections (done_in q) ≡ part = cc in subst (GoesOn asked (suc k)) same (record { stays = ap answer_to found; early = refl })
 answers asked k (Some (object_info q)) part found is =
     let same : informing ≡ part = cc in subst (GoesOn asked (suc k)) same (record { stays = ap answer_to found; early = refl })
 

@@ -14,7 +14,7 @@ use Rattle.git_pkt.specs.Machine.ReaderState.{is_open_in}
 use Rattle.git_pkt.specs.declared.reader.PacketReader.{PacketReader}
 use Rattle.git_pkt.proofs.OpenLengths.{shut_counts_none}
 use Rattle.git_pkt.proofs.LentHolds.{lent_reads}
-use Rattle.git_msg.specs.Asked.{Asked, ls_refs, fetch, object_info}
+use Rattle.git_msg.specs.Asked.{Asked, ls_refs, fetch, object_info, done_in}
 use Rattle.git_msg.specs.Machine.HeldRequest.{asked_of, format_of as request_format}
 use Rattle.git_msg.specs.WrittenRequest.{lines_written}
 use Rattle.git_msg.specs.Machine.RequestWriter.{written_of, left_to_write, PutsFirst}
@@ -63,11 +63,11 @@ expected_asked t earlier (ls_refs q) before whole =
     }
 expected_asked t earlier (fetch q) before whole =
     record {
-      part = sections q.done;
+      part = sections (done_in q);
       is_part = part_asked t earlier (fetch q) before whole;
       counts = omega (arith, whole.all_flushes, length-append earlier (fetch q ∷ []));
       same_lines = λ none. absurd (omega (arith, none, whole.all_flushes));
-      is_expected = (ap is_header_expected whole.no_message, ap (allowed_after q.done) (sym whole.no_message));
+      is_expected = (ap is_header_expected whole.no_message, ap (allowed_after (done_in q)) (sym whole.no_message));
     }
 expected_asked t earlier (object_info q) before whole =
     record {

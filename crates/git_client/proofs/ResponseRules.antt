@@ -6,7 +6,7 @@ use Rattle.git_names.specs.declared.object_format.Format.{Format}
 use Rattle.git_pkt.specs.Packets.{Pkt, flush, delim, resp_end, payload, text_of}
 use Rattle.git_pkt.specs.Splits.{Given}
 use Rattle.git_msg.specs.Advertisement.{noted_of}
-use Rattle.git_msg.specs.Asked.{Asked, ls_refs, fetch, object_info}
+use Rattle.git_msg.specs.Asked.{Asked, ls_refs, fetch, object_info, done_in}
 use Rattle.git_msg.specs.ResponseLines.{IsAckLine}
 use Rattle.git_msg.specs.Texts.{IsErrorText}
 use Rattle.git_msg.specs.declared.offers.Caps.{Caps}
@@ -649,7 +649,7 @@ fetch_rule format ending false ps es = (λ h. h, λ h. h)
 response_rule : (format : Format) (ending : Ending) (q : Asked) (ps : List Pkt) (es : List EventValue)
     → IsResponse format ending q ps es ↔ RuleOf format ending (first_expected q) ps es
 response_rule format ending (ls_refs q) ps es = (λ h. h, λ h. h)
-response_rule format ending (fetch q) ps es = fetch_rule format ending q.done ps es
+response_rule format ending (fetch q) ps es = fetch_rule format ending (done_in q) ps es
 response_rule format ending (object_info q) ps es = (λ h. h, λ h. h)
 
 pub response_is : (t : Terms) (earlier : List Asked) (q : Asked) (before : List Pkt) (gs : List Given) (es : List EventValue) → AreWhole t earlier before

@@ -3,7 +3,7 @@ use Rattle.std.specs.Prelude.{ℕ, suc, zero, Bool, true, false, not, List, [], 
 use Rattle.git_names.specs.declared.object_format.Format.{Format}
 use Rattle.git_pkt.specs.Packets.{Pkt, flush, delim, resp_end, payload, flushes}
 use Rattle.git_pkt.specs.Splits.{Given}
-use Rattle.git_msg.specs.Asked.{Asked, ls_refs, fetch, object_info}
+use Rattle.git_msg.specs.Asked.{Asked, ls_refs, fetch, object_info, done_in}
 use Rattle.git_client.specs.declared.events.Ending.{Ending}
 use Rattle.git_client.specs.declared.events.Ending.TheVariants.{ResponseEnd}
 
@@ -57,7 +57,7 @@ pub data Part : Type 0 where
 abbrev pub answer_to : Option Asked → Option Part
 answer_to None = None
 answer_to (Some (ls_refs q)) = Some listing
-answer_to (Some (fetch q)) = Some (sections q.done)
+answer_to (Some (fetch q)) = Some (sections (done_in q))
 answer_to (Some (object_info q)) = Some informing
 
 -- the part after this number of flushes

@@ -5,7 +5,7 @@ use Rattle.git_names.specs.declared.object_format.Format.{Format}
 use Rattle.git_pkt.specs.Packets.{Pkt, flush, delim, resp_end, payload, text_of}
 use Rattle.git_pkt.specs.Splits.{Given, Splits}
 use Rattle.git_msg.specs.Advertisement.{is_spoken, noted_of}
-use Rattle.git_msg.specs.Asked.{Asked, ls_refs, fetch, object_info}
+use Rattle.git_msg.specs.Asked.{Asked, ls_refs, fetch, object_info, done_in}
 use Rattle.git_msg.specs.Capability.{IsCapability}
 use Rattle.git_msg.specs.ResponseLines.{IsAckLine}
 use Rattle.git_msg.specs.Texts.{IsErrorText}
@@ -126,7 +126,7 @@ module _ (format : Format) (ending : Ending) where
   -- the packets are a whole response to the request, and give these events
   abbrev pub IsResponse : Asked → Rule
   IsResponse (ls_refs q) = LsRefsResponse
-  IsResponse (fetch q) = FetchResponse q.done
+  IsResponse (fetch q) = FetchResponse (done_in q)
   IsResponse (object_info q) = ObjectInfoResponse
 
 -- the first line of an advertisement, and one of a capability

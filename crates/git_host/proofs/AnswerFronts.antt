@@ -7,7 +7,7 @@ use Rattle.std.proofs.lemmas.List.Elements.{All-append, All-nil, All-replicate}
 use Rattle.git_names.specs.ObjectName.{ObjectName}
 use Rattle.git_names.specs.declared.object_format.Format.{Format}
 use Rattle.git_pkt.specs.Packets.{Pkt, flush}
-use Rattle.git_msg.specs.Asked.{Asked, FetchAsked, LsRefsAsked, ObjectInfoAsked, fetch, ls_refs, object_info, only_negotiates}
+use Rattle.git_msg.specs.Asked.{Asked, fetch, ls_refs, object_info, only_negotiates, oids_in, want_refs_in, wants_in}
 use Rattle.git_msg.specs.WrittenRequest.{text_line}
 use Rattle.git_server.specs.FetchAnswers.{negotiates}
 use Rattle.git_server.specs.Packs.{whole}
@@ -43,6 +43,7 @@ use Rattle.git_host.proofs.FetchMoves.{begins, none_sound, sound_so}
 use Rattle.git_host.proofs.HostAnswerMoves.{all_found, fetch_gives, gives_same}
 use Rattle.git_host.proofs.ReferencesMoves.{after_refs, first_entries, sound_to_the_end}
 use Rattle.git_host.proofs.SizesMoves.{after_size, after_size_header, size_there}
+use Rattle.git_msg.specs.Arguments.{Arg}
 
 no_more : {X : Type 0} (xs : List X) → IsFront xs xs
 no_more xs = ([], sym (append-nil xs))
@@ -56,13 +57,13 @@ no_loss true e = cc
 no_loss false e = cc
 
 -- ---- a fetch whose wants are looked up
-module _ (format : Format) (q : FetchAsked) where
+module _ (format : Format) (q : List Arg) where
   -- the store has them all, these of the wanted references and those that were not reported
-  with_all : (a : AdmissionFacts) (kept fresh : List ObjectName) → IsFront a.wants (all_there q.wants) → a.found ≡ map Some kept
-      → length (kept ++ fresh) ≡ length q.want_refs → All (λ id. id.format ≡ format) (kept ++ fresh) → Completes q (no_facts (kept ++ fresh)) []
+  with_all : (a : AdmissionFacts) (kept fresh : List ObjectName) → IsFront a.wants (all_there (wants_in q)) → a.found ≡ map Some kept
+      → length (kept ++ fresh) ≡ length (want_refs_in q) → All (λ id. id.format ≡ format) (kept ++ fresh) → Completes q (no_facts (kept ++ fresh)) []
       → IsFrontBy format (fetch q) (of_fetch a (no_facts kept)) []
   with_all a kept fresh wants found count of c = record {
-    later = of_fetch (record { wants = all_there q.wants; found = map Some (kept ++ fresh) }) (absent_more c.absent c.ready c.ended (no_facts (kept ++ fresh)));
+    later = of_fetch (record { wants = all_there (wants_in q); found = map Some (kept ++ fresh) }) (absent_more c.absent c.ready c.ended (no_facts (kept ++ fresh)));
     grows = (
       record {
         wants = wants;
@@ -89,12 +90,12 @@ module _ (format : Format) (q : FetchAsked) where
     );
   }
 
-  with_kept : (a : AdmissionFacts) (kept : List ObjectName) → IsFront a.wants (all_there q.wants) → a.found ≡ map Some kept
-      → length kept ≤ length q.want_refs → All (λ id. id.format ≡ format) kept → IsFrontBy format (fetch q) (of_fetch a (no_facts kept)) []
+  with_kept : (a : AdmissionFacts) (kept : List ObjectName) → IsFront a.wants (all_there (wants_in q)) → a.found ≡ map Some kept
+      → length kept ≤ length (want_refs_in q) → All (λ id. id.format ≡ format) kept → IsFrontBy format (fetch q) (of_fetch a (no_facts kept)) []
   with_kept a kept wants found few of =
-      let left = length q.want_refs - length kept in
+      let left = length (want_refs_in q) - length kept in
       let fresh = replicate left (some_id format) in
-      let count : length (kept ++ fresh) ≡ length q.want_refs = omega (arith, length-append kept fresh, length-replicate left (some_id format), few) in
+      let count : length (kept ++ fresh) ≡ length (want_refs_in q) = omega (arith, length-append kept fresh, length-replicate left (some_id format), few) in
       with_all a kept fresh wants found count
       (All-append (λ (id : ObjectName). id.format ≡ format) kept fresh of
       (All-replicate (λ (id : ObjectName). id.format ≡ format) left (some_id format) refl))
@@ -110,9 +111,9 @@ module _ (format : Format) (q : FetchAsked) where
       → StandsAtStep step format q a kept → t ≡ no_facts (found_ids a.found) → IsFrontBy format (fetch q) (of_fetch a t) []
   admission_front (AskWant at) a kept t asks h is =
       kept_so_far a [] t is h.none_found (with_kept a [] (
-        all_there (drop at q.wants),
-        ap all_there (sym (take-append-drop at q.wants)) ∙ map-append (λ (id : ObjectName). true) (take at q.wants) (drop at q.wants)
-            ∙ ap (λ (l : List Bool). l ++ all_there (drop at q.wants)) (sym h.so_far),
+        all_there (drop at (wants_in q)),
+        ap all_there (sym (take-append-drop at (wants_in q))) ∙ map-append (λ (id : ObjectName). true) (take at (wants_in q)) (drop at (wants_in q))
+            ∙ ap (λ (l : List Bool). l ++ all_there (drop at (wants_in q))) (sym h.so_far),
       ) h.none_found (omega arith) (All-nil (λ (id : ObjectName). id.format ≡ format)))
   admission_front (AskWantRef at) a kept t asks h is =
       kept_so_far a kept t is h.found (with_kept a kept (subst (IsFront a.wants) h.there (no_more a.wants)) h.found
@@ -146,7 +147,7 @@ lost Pack = inr (λ e. cc)
 lost AtEnd = inr (λ e. cc)
 lost AtLoss = inl refl
 
-module _ (format : Format) (q : FetchAsked) (a : AdmissionFacts) (t : FetchFacts) (front : List Pkt) (admitted : IsAdmitted format q a t.wanted)
+module _ (format : Format) (q : List Arg) (a : AdmissionFacts) (t : FetchFacts) (front : List Pkt) (admitted : IsAdmitted format q a t.wanted)
     (sound : AreSoundFacts format q t) where
   front_of : Completes q t front → IsFrontBy format (fetch q) (of_fetch a t) front
   front_of c = record {
@@ -184,7 +185,7 @@ module _ (format : Format) (q : FetchAsked) (a : AdmissionFacts) (t : FetchFacts
       ]
 
 -- something that comes before the pack is asked
-before_place : (place : Place) (alone : Bool) (q : FetchAsked) (t : FetchFacts) (given : List Pkt) → is_before_pack (step_at alone place) ≡ true
+before_place : (place : Place) (alone : Bool) (q : List Arg) (t : FetchFacts) (given : List Pkt) → is_before_pack (step_at alone place) ≡ true
     → StandsAt place q t given → (place ≡ AtLoss → ⊥) × (length given ≤ length (before_pack q t))
 before_place (Have next any) alone q t given is h = (λ e. cc, have_fits next any q t given h)
 before_place Ready alone q t given is h = (λ e. cc, ready_fits q t given h)
@@ -203,7 +204,7 @@ before_place AtLoss alone q t given is h = absurd (cc)
 
 -- ---- references
 
-refs_front : (place : ReferencesPlace) (format : Format) (q : LsRefsAsked) (t : ReferencesFacts) (last : Option (List ℕ)) (given : List Pkt)
+refs_front : (place : ReferencesPlace) (format : Format) (q : List Arg) (t : ReferencesFacts) (last : Option (List ℕ)) (given : List Pkt)
     → StandsAtReferences place format q t last given → (more : List Pkt) × IsReferencesAnswerOf format q (with_references_end t) (given ++ more)
 refs_front First format q t last given h = (flush ∷ [], after_refs format q t last given (first_entries format q t last given h))
 refs_front Entries format q t last given h = (flush ∷ [], after_refs format q t last given h.1)
@@ -219,13 +220,13 @@ refs_front AllReferences format q t last given h = (
 
 -- ---- sizes
 
-record CompletesSizes (q : ObjectInfoAsked) (sizes : List (Option ℕ)) (given : List Pkt) : Type 0 where
+record CompletesSizes (q : List Arg) (sizes : List (Option ℕ)) (given : List Pkt) : Type 0 where
   unknown : List (Option ℕ)
   more : List Pkt
   answer : IsSizesAnswerOf q (sizes ++ unknown) (given ++ more)
 
 -- the next size and its line, taken out of the front
-size_first : (q : ObjectInfoAsked) (sizes : List (Option ℕ)) (given : List Pkt) (size : Option ℕ) (line : Pkt) (unknown : List (Option ℕ))
+size_first : (q : List Arg) (sizes : List (Option ℕ)) (given : List Pkt) (size : Option ℕ) (line : Pkt) (unknown : List (Option ℕ))
     (more : List Pkt) → IsSizesAnswerOf q ((sizes ++ size ∷ []) ++ unknown) ((given ++ line ∷ []) ++ more)
     → IsSizesAnswerOf q (sizes ++ (size ∷ unknown)) (given ++ (line ∷ more))
 size_first q sizes given size line unknown more h =
@@ -233,7 +234,7 @@ size_first q sizes given size line unknown more h =
     (subst (IsSizesAnswerOf q ((sizes ++ size ∷ []) ++ unknown)) (append_assoc given (line ∷ []) more) h)
 
 -- so many objects are left
-from_object : (left at : ℕ) (q : ObjectInfoAsked) (sizes : List (Option ℕ)) (given : List Pkt) → at + left ≡ length q.oids → AtObject at q sizes given
+from_object : (left at : ℕ) (q : List Arg) (sizes : List (Option ℕ)) (given : List Pkt) → at + left ≡ length (oids_in q) → AtObject at q sizes given
     → CompletesSizes q sizes given
 from_object zero at q sizes given count h = record {
   unknown = [];
@@ -244,7 +245,7 @@ from_object zero at q sizes given count h = record {
   });
 }
 from_object (suc left) at q sizes given count h =
-    let within : at < length q.oids = omega (arith, count) in
+    let within : at < length (oids_in q) = omega (arith, count) in
     let (id, here) = size_there q at within in
     let line = size_line None id in
     let c = from_object left (at + 1) q (sizes ++ None ∷ []) (given ++ line ∷ []) (omega (arith, count)) (after_size at q sizes given None id h within here) in
@@ -254,17 +255,17 @@ from_object (suc left) at q sizes given count h =
       answer = size_first q sizes given None line c.unknown c.more c.answer;
     }
 
-sizes_complete : (place : SizesPlace) (q : ObjectInfoAsked) (sizes : List (Option ℕ)) (given : List Pkt) → StandsAtSizes place q sizes given
+sizes_complete : (place : SizesPlace) (q : List Arg) (sizes : List (Option ℕ)) (given : List Pkt) → StandsAtSizes place q sizes given
     → CompletesSizes q sizes given
 sizes_complete SizesHeader q sizes given h =
     let header = text_line (codes "size") in
-    let c = from_object (length q.oids) 0 q sizes (given ++ header ∷ []) (omega arith) (after_size_header q sizes given h.0 h.1) in
+    let c = from_object (length (oids_in q)) 0 q sizes (given ++ header ∷ []) (omega arith) (after_size_header q sizes given h.0 h.1) in
     record {
       unknown = c.unknown;
       more = header ∷ c.more;
       answer = subst (IsSizesAnswerOf q (sizes ++ c.unknown)) (append_assoc given (header ∷ []) c.more) c.answer;
     }
-sizes_complete (Object at) q sizes given h = from_object (length q.oids - at) at q sizes given (omega (arith, h.within)) h
+sizes_complete (Object at) q sizes given h = from_object (length (oids_in q) - at) at q sizes given (omega (arith, h.within)) h
 sizes_complete AllSizes q sizes given h = record {
   unknown = [];
   more = [];
@@ -319,7 +320,7 @@ neither true b first second either = not_both first
 neither false b first second either = not_both (sym either ∙ second)
 
 module _ {A : Type 0} where
-  references_front : (answer : ReferencesAnswer A) (format : Format) (q : LsRefsAsked) (t : ReferencesFacts) (front : List Pkt) → answer.format ≡ format
+  references_front : (answer : ReferencesAnswer A) (format : Format) (q : List Arg) (t : ReferencesFacts) (front : List Pkt) → answer.format ≡ format
       → RepresentsReferences q t front answer → IsFrontBy format (ls_refs q) (of_references t) front
   references_front answer format q t front same h =
       let (more, is) = refs_front answer.place answer.format q t (last_reported answer) front h.stands in
@@ -330,10 +331,10 @@ module _ {A : Type 0} where
         answer = subst (λ (m : Format). IsReferencesAnswerOf m q (with_references_end t) (front ++ more)) same is;
       }
 
-  sizes_front : (answer : SizesAnswer A) (format : Format) (q : ObjectInfoAsked) (sizes : List (Option ℕ)) (front : List Pkt) → sizes_asked answer ≡ q
+  sizes_front : (answer : SizesAnswer A) (format : Format) (q : List Arg) (sizes : List (Option ℕ)) (front : List Pkt) → sizes_asked answer ≡ q
       → RepresentsSizes sizes front answer → IsFrontBy format (object_info q) (of_sizes sizes) front
   sizes_front answer format q sizes front same h =
-      let c = sizes_complete answer.place q sizes front (subst (λ (r : ObjectInfoAsked). StandsAtSizes answer.place r sizes front) same h) in
+      let c = sizes_complete answer.place q sizes front (subst (λ (r : List Arg). StandsAtSizes answer.place r sizes front) same h) in
       record { later = of_sizes (sizes ++ c.unknown); grows = (c.unknown, refl); more = c.more; answer = c.answer }
 
   pub answering_so_far : (m : Terms) (answer : HostAnswer A) (q : Asked) (f : Facts) (front : List Pkt) → IsAnswering m answer q f front
@@ -342,12 +343,12 @@ module _ {A : Type 0} where
       subst (λ (l : List Pkt). IsSoFar m.format (fetch q) (of_fetch a t) l) (sym h.none)
       (admission_so_far m.format q admission.step a admission.wanted.items t
       (subst (λ (format : Format). StandsAtStep admission.step format q a admission.wanted.items) h.format_is
-      (subst (λ (r : FetchAsked). StandsAtStep admission.step admission.format r a admission.wanted.items) h.asked h.represents)) h.facts)
+      (subst (λ (r : List Arg). StandsAtStep admission.step admission.format r a admission.wanted.items) h.asked h.represents)) h.facts)
   answering_so_far m (Fetch answer) (fetch q) (of_fetch a t) front h =
       fetch_so_far m.format q a t front h.admitted
       (subst (λ (format : Format). AreSoundFacts format q t) h.format_is
-      (subst (λ (r : FetchAsked). AreSoundFacts (fetch_format answer) r t) h.asked h.represents.sound))
-      answer.place (subst (λ (r : FetchAsked). StandsAt answer.place r t front) h.asked h.represents.stands)
+      (subst (λ (r : List Arg). AreSoundFacts (fetch_format answer) r t) h.asked h.represents.sound))
+      answer.place (subst (λ (r : List Arg). StandsAt answer.place r t front) h.asked h.represents.stands)
   answering_so_far m (References answer) (ls_refs q) (of_references t) front h = inl (references_front answer m.format q t front h.format_is h.represents)
   answering_so_far m (Sizes answer) (object_info q) (of_sizes sizes) front h = inl (sizes_front answer m.format q sizes front h.asked h.represents)
   answering_so_far m Whole q f front h = inl (whole_front m.format q f front h)
@@ -375,7 +376,7 @@ module _ {A : Type 0} where
     subst (λ (l : List Pkt). IsFrontBy m.format (fetch q) (of_fetch x t) l) (sym h.none)
         (admission_front m.format q a.step x a.wanted.items t asks
         (subst (λ (format : Format). StandsAtStep a.step format q x a.wanted.items) h.format_is
-        (subst (λ (r : FetchAsked). StandsAtStep a.step a.format r x a.wanted.items) h.asked h.represents)) h.facts),
+        (subst (λ (r : List Arg). StandsAtStep a.step a.format r x a.wanted.items) h.asked h.represents)) h.facts),
     omega (arith, ap length h.none),
   )
   cut_admission a asks m (fetch q) (of_references t) front h = absurd h
@@ -385,11 +386,11 @@ module _ {A : Type 0} where
 
   pub cut_fetch : (a : FetchAnswer A) → is_before_pack (fetch_step a) ≡ true → IsCut (Fetch a)
   cut_fetch a asks m (fetch q) (of_fetch x t) front h =
-      let stands = subst (λ (r : FetchAsked). StandsAt a.place r t front) h.asked h.represents.stands in
+      let stands = subst (λ (r : List Arg). StandsAt a.place r t front) h.asked h.represents.stands in
       let (unlost, fits) = before_place a.place (only_negotiates (fetch_of a)) q t front asks stands in (
         fetch_front m.format q x t front h.admitted
             (subst (λ (format : Format). AreSoundFacts format q t) h.format_is
-            (subst (λ (r : FetchAsked). AreSoundFacts (fetch_format a) r t) h.asked h.represents.sound)) a.place unlost stands,
+            (subst (λ (r : List Arg). AreSoundFacts (fetch_format a) r t) h.asked h.represents.sound)) a.place unlost stands,
         fits,
       )
   cut_fetch a asks m (fetch q) (of_references t) front h = absurd h
@@ -458,7 +459,7 @@ start_so_far format (ls_refs q) =
       answer = is;
     })
 start_so_far format (fetch q) =
-    inl (with_kept format q nothing_reported [] (all_there q.wants, refl) refl (omega arith) (All-nil (λ (id : ObjectName). id.format ≡ format)))
+    inl (with_kept format q nothing_reported [] (all_there (wants_in q), refl) refl (omega arith) (All-nil (λ (id : ObjectName). id.format ≡ format)))
 start_so_far format (object_info q) =
     let c = sizes_complete SizesHeader q [] [] (refl, refl) in
     inl (record { later = of_sizes c.unknown; grows = (c.unknown, refl); more = c.more; answer = c.answer })

@@ -12,7 +12,7 @@ use Rattle.git_names.specs.declared.object_format.Format.{Format}
 use Rattle.git_pkt.specs.Packets.{Pkt, longest_payload}
 use Rattle.git_msg.specs.declared.Boundary.{Boundary}
 use Rattle.git_msg.specs.Kept.{Kept}
-use Rattle.git_msg.specs.Asked.{FetchAsked, ObjectInfoAsked, fetch, ls_refs, object_info}
+use Rattle.git_msg.specs.Asked.{fetch, ls_refs, object_info}
 use Rattle.git_server.specs.Packs.{Manner, whole, broken}
 use Rattle.git_server.specs.Repository.{Entry}
 use Rattle.git_host.specs.Admissions.{AdmissionFacts, IsAdmitted, IsSame, Reports as AdmissionReports, ReportsWant, ReportsWantRef, StandsAtStep}
@@ -66,6 +66,7 @@ use Rattle.git_host.specs.declared.report.HostReported.TheVariants.{Taken, NotAs
 use Rattle.git_host.specs.declared.report.Report.{Report}
 use Rattle.git_host.specs.declared.report.Report.TheVariants.{Want, WantRef, Boundary as LineOf, BoundaryEnd as EndsIt, Progress as ProgressOf, Reference}
 use Rattle.git_host.specs.declared.report.Report.TheVariants.{Unborn}
+use Rattle.git_msg.specs.Arguments.{Arg}
 
 pub on_err : {X E : Type 0} (r : Result X E) (e : E) (P : Type 0) → r ≡ Err e → OnErr r P → P
 on_err (Ok x) e P is h = absurd (cc)
@@ -85,7 +86,7 @@ pub all_found : (ids : List ObjectName) → found_ids (map Some ids) ≡ ids
 all_found [] = refl
 all_found (id ∷ ids) = ap (λ (l : List ObjectName). id ∷ l) (all_found ids)
 
-fetch_by : (manner : Manner) (format : Format) (q : FetchAsked) (a : AdmissionFacts) (t : FetchFacts) (packets : List Pkt) → IsAdmitted format q a t.wanted
+fetch_by : (manner : Manner) (format : Format) (q : List Arg) (a : AdmissionFacts) (t : FetchFacts) (packets : List Pkt) → IsAdmitted format q a t.wanted
     → IsSoundFetchAnswer manner format q t packets → IsAnswerBy manner format (fetch q) (of_fetch a t) packets
 fetch_by whole format q a t packets admitted is = (admitted, is)
 fetch_by broken format q a t packets admitted is = (admitted, is)
@@ -263,7 +264,7 @@ module _ {A : Type 0} where
   -- ---- a fetch
   module _ (a b : FetchAnswer A) where
     same_asked : IsToTheSame a b → fetch_of b ≡ fetch_of a
-    same_asked same = ap (λ (r : Kept FetchAsked). r.asked) same.request
+    same_asked same = ap (λ (r : Kept (List Arg)). r.asked) same.request
 
     pub fetch_gives : (with : FetchFacts → FetchFacts) (bytes : List ℕ) → ((t : FetchFacts) → (with t).wanted ≡ t.wanted) → ReportsAndGives with a bytes b
         → GivesOn (on_fetch with) (Fetch a) bytes (Fetch b)
@@ -380,7 +381,7 @@ module _ {A : Type 0} where
         → IsGiven manner (Fetch a)
     fetch_given manner given m (fetch q) (of_fetch x t) front h =
         fetch_by manner m.format q x t front h.admitted
-        (subst (λ (asked : FetchAsked). IsSoundFetchAnswer manner m.format asked t front) h.asked
+        (subst (λ (asked : List Arg). IsSoundFetchAnswer manner m.format asked t front) h.asked
         (subst (λ (format : Format). IsSoundFetchAnswer manner format (fetch_of a) t front) h.format_is (given t front h.represents)))
     fetch_given manner given m (fetch q) (of_references t) front h = absurd h
     fetch_given manner given m (fetch q) (of_sizes t) front h = absurd h
@@ -470,7 +471,7 @@ module _ {A : Type 0} where
           packet,
           held.spelled,
           record {
-            asked = ap (λ (r : Kept ObjectInfoAsked). r.asked) gives.same ∙ h.asked;
+            asked = ap (λ (r : Kept (List Arg)). r.asked) gives.same ∙ h.asked;
             bounded = subst (IsWithinLimit m.limit) (sym gives.same) h.bounded;
             represents = holds;
           },
@@ -491,7 +492,7 @@ module _ {A : Type 0} where
     sizes_whole : ((sizes : List (Option ℕ)) (given : List Pkt) → RepresentsSizes sizes given a → IsSizesAnswerOf a.request.asked sizes given)
         → IsGiven whole (Sizes a)
     sizes_whole given m (object_info q) (of_sizes sizes) front h =
-        subst (λ (asked : ObjectInfoAsked). IsSizesAnswerOf asked sizes front) h.asked (given sizes front h.represents)
+        subst (λ (asked : List Arg). IsSizesAnswerOf asked sizes front) h.asked (given sizes front h.represents)
     sizes_whole given m (object_info q) (of_fetch x t) front h = absurd h
     sizes_whole given m (object_info q) (of_references t) front h = absurd h
     sizes_whole given m (fetch q) f front h = absurd h
@@ -516,7 +517,7 @@ module _ {A : Type 0} where
     want_goes : (has : Bool) → AdmissionReports (with_want has) a b → GoesOn (on_wants has) (Admission a) (Admission b)
     want_goes has done m (fetch q) (of_fetch x t) front h =
         record {
-          asked = ap (λ (r : Kept FetchAsked). r.asked) done.request ∙ h.asked;
+          asked = ap (λ (r : Kept (List Arg)). r.asked) done.request ∙ h.asked;
           format_is = done.format ∙ h.format_is;
           bounded = subst (IsWithinLimit m.limit) (sym done.request) h.bounded;
           represents = done.represents x h.represents;
@@ -531,7 +532,7 @@ module _ {A : Type 0} where
     want_ref_goes : (id : Option ObjectName) → AdmissionReports (with_found id) a b → GoesOn (on_want_refs id) (Admission a) (Admission b)
     want_ref_goes (Some id) done m (fetch q) (of_fetch x t) front h =
         record {
-          asked = ap (λ (r : Kept FetchAsked). r.asked) done.request ∙ h.asked;
+          asked = ap (λ (r : Kept (List Arg)). r.asked) done.request ∙ h.asked;
           format_is = done.format ∙ h.format_is;
           bounded = subst (IsWithinLimit m.limit) (sym done.request) h.bounded;
           represents = done.represents x h.represents;
@@ -540,7 +541,7 @@ module _ {A : Type 0} where
         }
     want_ref_goes None done m (fetch q) (of_fetch x t) front h =
         record {
-          asked = ap (λ (r : Kept FetchAsked). r.asked) done.request ∙ h.asked;
+          asked = ap (λ (r : Kept (List Arg)). r.asked) done.request ∙ h.asked;
           format_is = done.format ∙ h.format_is;
           bounded = subst (IsWithinLimit m.limit) (sym done.request) h.bounded;
           represents = done.represents x h.represents;
@@ -595,10 +596,10 @@ module _ {A : Type 0} where
     same_goes : IsSame a b → GoesOn (λ f. f) (Admission a) (Admission b)
     same_goes same m (fetch q) (of_fetch x t) front h =
         record {
-          asked = ap (λ (r : Kept FetchAsked). r.asked) same.request ∙ h.asked;
+          asked = ap (λ (r : Kept (List Arg)). r.asked) same.request ∙ h.asked;
           format_is = same.format ∙ h.format_is;
           bounded = subst (IsWithinLimit m.limit) (sym same.request) h.bounded;
-          represents = subst (λ (r : Kept FetchAsked). StandsAtStep b.step b.format r.asked x b.wanted.items) (sym same.request)
+          represents = subst (λ (r : Kept (List Arg)). StandsAtStep b.step b.format r.asked x b.wanted.items) (sym same.request)
               (subst (λ (ids : List ObjectName). StandsAtStep b.step b.format a.request.asked x ids) (sym same.wanted)
               (subst (λ (format : Format). StandsAtStep b.step format a.request.asked x a.wanted.items) (sym same.format)
               (subst (λ (step : AdmissionStep). StandsAtStep step a.format a.request.asked x a.wanted.items) (sym same.step) h.represents)));
@@ -632,12 +633,12 @@ module _ {A : Type 0} where
       let ids = a.wanted.items in
       let is : t ≡ no_facts ids = h.facts ∙ ap no_facts (ap found_ids through.found ∙ all_found ids) in
       record {
-        asked = ap (λ (r : Kept FetchAsked). r.asked) done.request ∙ h.asked;
+        asked = ap (λ (r : Kept (List Arg)). r.asked) done.request ∙ h.asked;
         format_is = done.format ∙ h.format_is;
         bounded = subst (IsWithinLimit m.limit) (sym done.request) h.bounded;
         admitted = subst (λ (s : FetchFacts). IsAdmitted m.format q x s.wanted) (sym is)
             (subst (λ (format : Format). IsAdmitted format q x ids) h.format_is
-            (subst (λ (r : FetchAsked). IsAdmitted a.format r x ids) h.asked through));
+            (subst (λ (r : List Arg). IsAdmitted a.format r x ids) h.asked through));
         represents = subst (λ (s : FetchFacts). Represents s front answer) (sym is)
             (subst (λ (l : List Pkt). Represents (no_facts ids) l answer) (sym h.none) (done.represents x h.represents));
       }

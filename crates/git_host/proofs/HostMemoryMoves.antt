@@ -4,7 +4,7 @@ use Rattle.git_names.specs.ObjectName.{ObjectName}
 use Rattle.git_names.specs.declared.object_format.Format.{Format}
 use Rattle.git_pkt.specs.Packets.{Pkt}
 use Rattle.git_msg.specs.declared.streams.RequestStream.{RequestStream}
-use Rattle.git_msg.specs.Asked.{Asked, FetchAsked, fetch, ls_refs, object_info}
+use Rattle.git_msg.specs.Asked.{Asked, fetch, ls_refs, object_info, want_refs_in}
 use Rattle.git_msg.specs.Machine.RequestStreams.{bytes_held as stream_held}
 use Rattle.git_host.specs.Admissions.{AdmissionFacts, StandsAtStep}
 use Rattle.git_host.specs.HostSessions.{Facts, HostSetting, of_fetch, of_references, of_sizes}
@@ -19,9 +19,10 @@ use Rattle.git_host.specs.declared.host_answer.HostAnswer.TheVariants.{Admission
 use Rattle.git_host.specs.declared.host_server.Phase.{Phase}
 use Rattle.git_host.specs.declared.host_server.Phase.TheVariants.{Advertising, Reading, Asked as WholeRequest, Answering, Refusing, Ended}
 use Rattle.git_host.specs.declared.host_server.HostServer.{HostServer}
+use Rattle.git_msg.specs.Arguments.{Arg}
 
-objects_at : (step : AdmissionStep) (format : Format) (q : FetchAsked) (a : AdmissionFacts) (ids : List ObjectName) → StandsAtStep step format q a ids
-    → length ids ≤ length q.want_refs
+objects_at : (step : AdmissionStep) (format : Format) (q : List Arg) (a : AdmissionFacts) (ids : List ObjectName) → StandsAtStep step format q a ids
+    → length ids ≤ length (want_refs_in q)
 objects_at (AskWant at) format q a ids h = omega (arith, ap length h.none_kept)
 objects_at (AskWantRef at) format q a ids h = omega (arith, h.within, h.so_far)
 objects_at Admitted format q a ids h = omega (arith, h.all)

@@ -10,7 +10,7 @@ use Rattle.std.proofs.lemmas.Slice.Eq.{bytes_eq-Decides}
 use Rattle.git_names.specs.RefName.{IsRefName}
 use Rattle.git_names.specs.declared.object_format.Format.{Format}
 use Rattle.git_pkt.specs.Packets.{Pkt, flush}
-use Rattle.git_msg.specs.Asked.{LsRefsAsked}
+use Rattle.git_msg.specs.Asked.{ref_prefixes_in, peel_in, symrefs_in}
 use Rattle.git_msg.specs.Kept.{Kept}
 use Rattle.git_msg.specs.Prefixes.{OrdersPrefixes, is_shown}
 use Rattle.git_server.specs.Answers.{asks_for_unborn, reference_packet, shown_refs, unborn_packet, unborn_packets}
@@ -22,6 +22,7 @@ use Rattle.git_host.specs.declared.references_answer.ReferencesPlace.{References
 use Rattle.git_host.specs.declared.references_answer.ReferencesPlace.TheVariants.{First, Entries, AfterUnborn, Whole}
 use Rattle.git_host.proofs.Picked.{length_more, map_more}
 use Rattle.git_server.proofs.Rising.{last_is, last_rises, rising_more}
+use Rattle.git_msg.specs.Arguments.{Arg}
 
 filter_by : {X : Type 0} (y : X) (all kept last : List X) → all ≡ kept ++ last → (b : Bool)
     → (if b then y ∷ all else all) ≡ (if b then y ∷ kept else kept) ++ last
@@ -35,7 +36,7 @@ filter_more p (y ∷ ys) x b e =
     filter_by y (filter p (ys ++ x ∷ [])) (filter p ys) (if b then x ∷ [] else []) (filter_more p ys x b e) (p y)
 
 -- the request as it is kept, before its prefixes are put in order and after
-pub ordered_alike : (q : LsRefsAsked) (old new : Kept LsRefsAsked) → IsAlike q old.asked → OrdersPrefixes old new → IsAlike q new.asked
+pub ordered_alike : (q : List Arg) (old new : Kept (List Arg)) → IsAlike q old.asked → OrdersPrefixes old new → IsAlike q new.asked
 ordered_alike q old new h orders = record {
   symrefs = orders.symrefs ∙ h.symrefs;
   peel = orders.peel ∙ h.peel;
@@ -43,17 +44,19 @@ ordered_alike q old new h orders = record {
   alike = λ name. h.alike name ∙ orders.alike name;
 }
 
-pub same_alike : (q : LsRefsAsked) → IsAlike q q
+pub same_alike : (q : List Arg) → IsAlike q q
 same_alike q = record { symrefs = refl; peel = refl; unborn = refl; alike = λ name. refl }
 
-pub shown_alike : (q kept : LsRefsAsked) (name : List ℕ) (b : Bool) → IsAlike q kept → is_shown kept.ref_prefixes name ≡ b → is_shown q.ref_prefixes name ≡ b
+pub shown_alike : (q kept : List Arg) (name : List ℕ) (b : Bool) → IsAlike q kept → is_shown (ref_prefixes_in kept) name ≡ b
+    → is_shown (ref_prefixes_in q) name ≡ b
 shown_alike q kept name b h is = h.alike name ∙ is
 
-pub packet_alike : (q kept : LsRefsAsked) (entry : Entry) → IsAlike q kept
-    → reference_packet kept.symrefs kept.peel entry ≡ reference_packet q.symrefs q.peel entry
-packet_alike q kept entry h = ap (λ (b : Bool). reference_packet b kept.peel entry) h.symrefs ∙ ap (λ (b : Bool). reference_packet q.symrefs b entry) h.peel
+pub packet_alike : (q kept : List Arg) (entry : Entry) → IsAlike q kept
+    → reference_packet (symrefs_in kept) (peel_in kept) entry ≡ reference_packet (symrefs_in q) (peel_in q) entry
+packet_alike q kept entry h = ap (λ (b : Bool). reference_packet b (peel_in kept) entry) h.symrefs
+    ∙ ap (λ (b : Bool). reference_packet (symrefs_in q) b entry) h.peel
 
-pub asks_alike : (q kept : LsRefsAsked) (b : Bool) → IsAlike q kept → asks_for_unborn kept ≡ b → asks_for_unborn q ≡ b
+pub asks_alike : (q kept : List Arg) (b : Bool) → IsAlike q kept → asks_for_unborn kept ≡ b → asks_for_unborn q ≡ b
 asks_alike q kept b h is = rw (h.symrefs, h.unborn, ← h.alike (codes "HEAD")) at is
 
 -- the reference added last is the last one
@@ -105,31 +108,32 @@ one_more_sound format t last entry h is after named of_format other = record {
 pub sound_to_the_end : (format : Format) (t : ReferencesFacts) → AreSoundReferences format t → AreSoundReferences format (with_references_end t)
 sound_to_the_end format t h = record { rising = h.rising; named = h.named; of_format = h.of_format; unborn = h.unborn }
 
-module _ (format : Format) (q : LsRefsAsked) (t : ReferencesFacts) (last : Option (List ℕ)) (given : List Pkt) (at : AtEntries format q t last given) where
-  refs_on : (entry : Entry) (b : Bool) → is_shown q.ref_prefixes entry.name ≡ b
-      → packets_so_far q (with_ref entry t) ≡ packets_so_far q t ++ (if b then reference_packet q.symrefs q.peel entry ∷ [] else [])
+module _ (format : Format) (q : List Arg) (t : ReferencesFacts) (last : Option (List ℕ)) (given : List Pkt) (at : AtEntries format q t last given) where
+  refs_on : (entry : Entry) (b : Bool) → is_shown (ref_prefixes_in q) entry.name ≡ b
+      → packets_so_far q (with_ref entry t) ≡ packets_so_far q t ++ (if b then reference_packet (symrefs_in q) (peel_in q) entry ∷ [] else [])
   refs_on entry true e =
-      ap (λ (refs : List Entry). unborn_packets q t.unborn ++ map (reference_packet q.symrefs q.peel) refs)
-      (filter_more (λ (r : Entry). is_shown q.ref_prefixes r.name) t.refs entry true e)
-      ∙ ap (λ (l : List Pkt). unborn_packets q t.unborn ++ l) (map_more (reference_packet q.symrefs q.peel) (shown_refs q.ref_prefixes t.refs) entry)
-      ∙ sym (append_assoc (unborn_packets q t.unborn) (map (reference_packet q.symrefs q.peel) (shown_refs q.ref_prefixes t.refs))
-      (reference_packet q.symrefs q.peel entry ∷ []))
+      ap (λ (refs : List Entry). unborn_packets q t.unborn ++ map (reference_packet (symrefs_in q) (peel_in q)) refs)
+      (filter_more (λ (r : Entry). is_shown (ref_prefixes_in q) r.name) t.refs entry true e)
+      ∙ ap (λ (l : List Pkt). unborn_packets q t.unborn ++ l) (map_more (reference_packet (symrefs_in q) (peel_in q)) (shown_refs
+      (ref_prefixes_in q) t.refs) entry)
+      ∙ sym (append_assoc (unborn_packets q t.unborn) (map (reference_packet (symrefs_in q) (peel_in q)) (shown_refs (ref_prefixes_in q) t.refs))
+      (reference_packet (symrefs_in q) (peel_in q) entry ∷ []))
   refs_on entry false e =
-      ap (λ (refs : List Entry). unborn_packets q t.unborn ++ map (reference_packet q.symrefs q.peel) refs)
-      (filter_more (λ (r : Entry). is_shown q.ref_prefixes r.name) t.refs entry false e ∙ append-nil (shown_refs q.ref_prefixes t.refs))
+      ap (λ (refs : List Entry). unborn_packets q t.unborn ++ map (reference_packet (symrefs_in q) (peel_in q)) refs)
+      (filter_more (λ (r : Entry). is_shown (ref_prefixes_in q) r.name) t.refs entry false e ∙ append-nil (shown_refs (ref_prefixes_in q) t.refs))
       ∙ sym (append-nil (packets_so_far q t))
 
   -- a reference that is shown
-  pub after_shown : (entry : Entry) → AreSoundReferences format (with_ref entry t) → is_shown q.ref_prefixes entry.name ≡ true
-      → AtEntries format q (with_ref entry t) (Some entry.name) (given ++ reference_packet q.symrefs q.peel entry ∷ [])
+  pub after_shown : (entry : Entry) → AreSoundReferences format (with_ref entry t) → is_shown (ref_prefixes_in q) entry.name ≡ true
+      → AtEntries format q (with_ref entry t) (Some entry.name) (given ++ reference_packet (symrefs_in q) (peel_in q) entry ∷ [])
   after_shown entry sound e = record {
     sound = sound;
     last_is = (t.refs, entry, refl, refl);
-    given_is = ap (λ (l : List Pkt). l ++ reference_packet q.symrefs q.peel entry ∷ []) at.given_is ∙ sym (refs_on entry true e);
+    given_is = ap (λ (l : List Pkt). l ++ reference_packet (symrefs_in q) (peel_in q) entry ∷ []) at.given_is ∙ sym (refs_on entry true e);
   }
 
   -- a reference that is hidden
-  pub after_hidden : (entry : Entry) → AreSoundReferences format (with_ref entry t) → is_shown q.ref_prefixes entry.name ≡ false
+  pub after_hidden : (entry : Entry) → AreSoundReferences format (with_ref entry t) → is_shown (ref_prefixes_in q) entry.name ≡ false
       → AtEntries format q (with_ref entry t) (Some entry.name) given
   after_hidden entry sound e = record {
     sound = sound;
@@ -142,7 +146,7 @@ module _ (format : Format) (q : LsRefsAsked) (t : ReferencesFacts) (last : Optio
     sound = sound_to_the_end format t at.sound;
     ended = refl;
     packets_are = ap (λ (l : List Pkt). l ++ flush ∷ []) at.given_is
-        ∙ append_assoc (unborn_packets q t.unborn) (map (reference_packet q.symrefs q.peel) (shown_refs q.ref_prefixes t.refs)) (flush ∷ []);
+        ∙ append_assoc (unborn_packets q t.unborn) (map (reference_packet (symrefs_in q) (peel_in q)) (shown_refs (ref_prefixes_in q) t.refs)) (flush ∷ []);
   }
 
 nothing_sound : (format : Format) → AreSoundReferences format no_references
@@ -154,7 +158,7 @@ nothing_sound format = record {
 }
 
 -- nothing was reported: no references so far
-pub first_entries : (format : Format) (q : LsRefsAsked) (t : ReferencesFacts) (last : Option (List ℕ)) (given : List Pkt) → AtFirst t last given
+pub first_entries : (format : Format) (q : List Arg) (t : ReferencesFacts) (last : Option (List ℕ)) (given : List Pkt) → AtFirst t last given
     → AtEntries format q t last given
 first_entries format q t last given h = record {
   sound = subst (AreSoundReferences format) (sym h.nothing) (nothing_sound format);
@@ -162,7 +166,7 @@ first_entries format q t last given h = record {
   given_is = h.given_is ∙ sym (ap (packets_so_far q) h.nothing);
 }
 
-pub entries_of : (place : ReferencesPlace) (format : Format) (q : LsRefsAsked) (t : ReferencesFacts) (last : Option (List ℕ)) (given : List Pkt)
+pub entries_of : (place : ReferencesPlace) (format : Format) (q : List Arg) (t : ReferencesFacts) (last : Option (List ℕ)) (given : List Pkt)
     → (place ≡ Whole → ⊥) → StandsAtReferences place format q t last given → AtEntries format q t last given
 entries_of First format q t last given unended h = first_entries format q t last given h
 entries_of Entries format q t last given unended h = h.1
@@ -170,7 +174,7 @@ entries_of AfterUnborn format q t last given unended h = h.1
 entries_of Whole format q t last given unended h = absurd (unended refl)
 
 -- with one more reference in the facts, the place is that after a reference
-pub stands_after : (place : ReferencesPlace) (format : Format) (q : LsRefsAsked) (t : ReferencesFacts) (last : Option (List ℕ)) (given : List Pkt)
+pub stands_after : (place : ReferencesPlace) (format : Format) (q : List Arg) (t : ReferencesFacts) (last : Option (List ℕ)) (given : List Pkt)
     (entry : Entry) (now : List Pkt) → (place ≡ Whole → ⊥) → StandsAtReferences place format q t last given
     → AtEntries format q (with_ref entry t) (Some entry.name) now
     → StandsAtReferences (after_entry place) format q (with_ref entry t) (Some entry.name) now
@@ -179,7 +183,7 @@ stands_after Entries format q t last given entry now unended h new = (h.0, new)
 stands_after AfterUnborn format q t last given entry now unended h new = (h.0, new)
 stands_after Whole format q t last given entry now unended h new = absurd (unended refl)
 
-pub head_allowed : (place : ReferencesPlace) (format : Format) (q : LsRefsAsked) (t : ReferencesFacts) (last : Option (List ℕ)) (given : List Pkt)
+pub head_allowed : (place : ReferencesPlace) (format : Format) (q : List Arg) (t : ReferencesFacts) (last : Option (List ℕ)) (given : List Pkt)
     (name : List ℕ) → (place ≡ Whole → ⊥) → refuses_head_at place name ≡ false → StandsAtReferences place format q t last given
     → ForSome t.unborn (λ target. name ≢ codes "HEAD")
 head_allowed First format q t last given name unended other h =
@@ -200,7 +204,7 @@ pub unsound_format : (format : Format) (t : ReferencesFacts) (entry : Entry) →
 unsound_format format t entry other sound =
     other (All-pop (IsOfFormat format) (t.refs ++ entry ∷ []) t.refs (Some entry) refl sound.of_format).1
 
-pub unsound_head : (place : ReferencesPlace) (format : Format) (q : LsRefsAsked) (t : ReferencesFacts) (last : Option (List ℕ)) (given : List Pkt)
+pub unsound_head : (place : ReferencesPlace) (format : Format) (q : List Arg) (t : ReferencesFacts) (last : Option (List ℕ)) (given : List Pkt)
     (entry : Entry) → refuses_head_at place entry.name ≡ true → StandsAtReferences place format q t last given
     → ¬ AreSoundReferences format (with_ref entry t)
 unsound_head First format q t last given entry is h sound = absurd (cc)
@@ -214,12 +218,12 @@ unsound_head AfterUnborn format q t last given entry is h sound =
           (All-pop (λ (ref : Entry). ref.name ≢ codes "HEAD") (t.refs ++ entry ∷ []) t.refs (Some entry) refl (u target refl).no_head).1
           ((bytes_eq-Decides entry.name (codes "HEAD")).0 is)
 
-module _ (format : Format) (q : LsRefsAsked) (t : ReferencesFacts) (last : Option (List ℕ)) (given : List Pkt) (target : List ℕ)
+module _ (format : Format) (q : List Arg) (t : ReferencesFacts) (last : Option (List ℕ)) (given : List Pkt) (target : List ℕ)
     (at : AtFirst t last given) where
   head_on : (b : Bool) → asks_for_unborn q ≡ b
       → packets_so_far q (with_unborn target t) ≡ (if b then unborn_packet target ∷ [] else [])
   head_on b e =
-      ap (λ (refs : List Entry). unborn_packets q (Some target) ++ map (reference_packet q.symrefs q.peel) (shown_refs q.ref_prefixes refs))
+      ap (λ (refs : List Entry). unborn_packets q (Some target) ++ map (reference_packet (symrefs_in q) (peel_in q)) (shown_refs (ref_prefixes_in q) refs))
       (ap (λ (f : ReferencesFacts). f.refs) at.nothing)
       ∙ append-nil (unborn_packets q (Some target)) ∙ ap (λ (c : Bool). if c then unborn_packet target ∷ [] else []) e
 

@@ -7,7 +7,7 @@ use Rattle.git_pkt.specs.Packets.{Pkt}
 use Rattle.git_pkt.specs.Bands.{AreBands}
 use Rattle.git_pkt.specs.declared.band.Band.TheVariants.{Pack as OnPack}
 use Rattle.git_msg.specs.declared.Boundary.{Boundary}
-use Rattle.git_msg.specs.Asked.{FetchAsked}
+use Rattle.git_msg.specs.Asked.{haves_in, want_refs_in}
 use Rattle.git_msg.specs.ResponseLines.{wanted_of, wanted_text}
 use Rattle.git_msg.specs.WrittenRequest.{text_line}
 use Rattle.git_server.specs.Packs.{EndsPack, IsPackfile, Manner, whole, broken, packfile_header}
@@ -18,6 +18,7 @@ use Rattle.git_server.specs.FetchAnswers.{acknowledgments as acknowledgments_of,
 use Rattle.git_host.specs.FetchFacts.{AreParts, FetchFacts, HasPack, IsFetchAnswerWhere, IsFetchAnswerOf, acknowledgments}
 use Rattle.git_host.specs.FetchFacts.{last_packet, opening, picked, readiness, sends_pack, wanted_lines, wanted_refs}
 use Rattle.git_host.specs.RepositoryFacts.{AreFound, IsPackOf, AreOfRepository}
+use Rattle.git_msg.specs.Arguments.{Arg}
 
 pub picked_has : (has : ObjectName → Bool) (ids : List ObjectName) → picked (map has ids) ids ≡ filter has ids
 picked_has has [] = refl
@@ -67,11 +68,11 @@ ends_by broken pack bytes parts is h = record {
   packets_are = refl;
 }
 
-module _ (manner : Manner) (repo : Repository) (q : FetchAsked) (t : FetchFacts) (reports : AreOfRepository manner repo q t) where
+module _ (manner : Manner) (repo : Repository) (q : List Arg) (t : FetchFacts) (reports : AreOfRepository manner repo q t) where
   acknowledged : negotiates q ≡ true → acknowledgments q t ≡ acknowledgments_of repo q
   acknowledged asks =
-      ap (λ (bs : List Bool). text_line (codes "acknowledgments") ∷ nak_or_acks (picked bs q.haves)) (reports.has asks)
-      ∙ ap (λ (ids : List ObjectName). text_line (codes "acknowledgments") ∷ nak_or_acks ids) (picked_has repo.has q.haves)
+      ap (λ (bs : List Bool). text_line (codes "acknowledgments") ∷ nak_or_acks (picked bs (haves_in q))) (reports.has asks)
+      ∙ ap (λ (ids : List ObjectName). text_line (codes "acknowledgments") ∷ nak_or_acks ids) (picked_has repo.has (haves_in q))
 
   sends_by : (b : Bool) → negotiates q ≡ b → sends_pack q t ≡ (if b then unwrap_or (readiness q t) false else true)
   sends_by b e = ap (λ (x : Bool). if x then unwrap_or (readiness q t) false else true) e
@@ -79,7 +80,7 @@ module _ (manner : Manner) (repo : Repository) (q : FetchAsked) (t : FetchFacts)
   -- from the boundary on
   after : sends_pack q t ≡ true → (parts : List Pkt) → AreParts t.pack t.progress parts
       → EndsWithBoundary manner repo q
-      (shallow_info t.boundary ++ (wanted_refs t.wanted q.want_refs ++ (packfile_header ∷ (parts ++ last_packet manner ∷ []))))
+      (shallow_info t.boundary ++ (wanted_refs t.wanted (want_refs_in q) ++ (packfile_header ∷ (parts ++ last_packet manner ∷ []))))
   after sends parts are =
       let tail = parts ++ last_packet manner ∷ [] in
       let packs : IsPackfile manner (repo.pack q) (packfile_header ∷ tail) = record {
@@ -88,24 +89,24 @@ module _ (manner : Manner) (repo : Repository) (q : FetchAsked) (t : FetchFacts)
         packets_are = refl;
       } in
       record {
-        others = wanted_refs t.wanted q.want_refs ++ (packfile_header ∷ tail);
+        others = wanted_refs t.wanted (want_refs_in q) ++ (packfile_header ∷ tail);
         holds = record {
           others = packfile_header ∷ tail;
           holds = packs;
-          packets_are = ap (λ (l : List Pkt). l ++ (packfile_header ∷ tail)) (found_section repo q.want_refs t.wanted reports.wanted);
+          packets_are = ap (λ (l : List Pkt). l ++ (packfile_header ∷ tail)) (found_section repo (want_refs_in q) t.wanted reports.wanted);
         };
-        packets_are = ap (λ (lines : List Boundary). shallow_info lines ++ (wanted_refs t.wanted q.want_refs ++ (packfile_header ∷ tail)))
+        packets_are = ap (λ (lines : List Boundary). shallow_info lines ++ (wanted_refs t.wanted (want_refs_in q) ++ (packfile_header ∷ tail)))
             (reports.boundary sends);
       }
 
   -- the whole answer, where the pack is part of it
   with_pack : (front : List Pkt) (packets : List Pkt) (h : HasPack manner q t packets) → opening q t ≡ front
-      → packets ≡ front ++ (shallow_info t.boundary ++ (wanted_refs t.wanted q.want_refs ++ (packfile_header ∷ (h.parts ++ last_packet manner ∷ []))))
+      → packets ≡ front ++ (shallow_info t.boundary ++ (wanted_refs t.wanted (want_refs_in q) ++ (packfile_header ∷ (h.parts ++ last_packet manner ∷ []))))
   with_pack front packets h is =
       let tail = packfile_header ∷ (h.parts ++ last_packet manner ∷ []) in
-      h.packets_are ∙ append_assoc (opening q t) (shallow_info t.boundary ++ wanted_refs t.wanted q.want_refs) tail
-      ∙ ap (λ (l : List Pkt). opening q t ++ l) (append_assoc (shallow_info t.boundary) (wanted_refs t.wanted q.want_refs) tail)
-      ∙ ap (λ (l : List Pkt). l ++ (shallow_info t.boundary ++ (wanted_refs t.wanted q.want_refs ++ tail))) is
+      h.packets_are ∙ append_assoc (opening q t) (shallow_info t.boundary ++ wanted_refs t.wanted (want_refs_in q)) tail
+      ∙ ap (λ (l : List Pkt). opening q t ++ l) (append_assoc (shallow_info t.boundary) (wanted_refs t.wanted (want_refs_in q)) tail)
+      ∙ ap (λ (l : List Pkt). l ++ (shallow_info t.boundary ++ (wanted_refs t.wanted (want_refs_in q) ++ tail))) is
 
   opens_by : (b : Bool) → negotiates q ≡ b → opening q t ≡ (if b then acknowledgments q t ++ ready_lines else [])
   opens_by b e = ap (λ (x : Bool). if x then acknowledgments q t ++ ready_lines else []) e
@@ -114,7 +115,7 @@ module _ (manner : Manner) (repo : Repository) (q : FetchAsked) (t : FetchFacts)
       → IsFetchAnswerBy b manner repo q packets
   answers_by true true packets e ready h =
       subst (λ (x : Bool). IsNegotiated x (acknowledgments_of repo q) manner repo q packets) (sym ready) (record {
-        others = shallow_info t.boundary ++ (wanted_refs t.wanted q.want_refs ++ (packfile_header ∷ (h.1.parts ++ last_packet manner ∷ [])));
+        others = shallow_info t.boundary ++ (wanted_refs t.wanted (want_refs_in q) ++ (packfile_header ∷ (h.1.parts ++ last_packet manner ∷ [])));
         holds = after (sends_by true e ∙ ap (λ (o : Option Bool). unwrap_or o false) (reports.ready e) ∙ ready) h.1.parts h.1.are_parts;
         packets_are = with_pack (acknowledgments_of repo q ++ ready_lines) packets h.1
             (opens_by true e ∙ ap (λ (l : List Pkt). l ++ ready_lines) (acknowledged e));

@@ -5,13 +5,14 @@ use Rattle.git_names.specs.ObjectName.{ObjectName}
 use Rattle.git_names.specs.declared.object_format.Format.{Format}
 use Rattle.git_pkt.specs.declared.fault.Kind.{Kind}
 use Rattle.git_pkt.specs.declared.fault.Kind.TheVariants.{NotOurs, UnknownRef}
-use Rattle.git_msg.specs.Asked.{FetchAsked}
+use Rattle.git_msg.specs.Asked.{want_refs_in, wants_in}
 use Rattle.git_msg.specs.Kept.{Kept}
 use Rattle.git_host.specs.declared.admission.AdmissionStep.{AdmissionStep}
 use Rattle.git_host.specs.declared.admission.AdmissionStep.TheVariants.{AskWant, AskWantRef, Admitted, Refused}
 use Rattle.git_host.specs.declared.admission.WantRefReported.{WantRefReported}
 use Rattle.git_host.specs.declared.admission.WantRefReported.TheVariants.{Taken, MixedFormats, NotAsked}
 use Rattle.git_host.specs.declared.admission.Admission.{Admission}
+use Rattle.git_msg.specs.Arguments.{Arg}
 
 -- what a store reported, by place: whether it has each wanted object, and the object of each wanted reference, if there is such a reference
 pub record AdmissionFacts : Type 0 where
@@ -26,52 +27,52 @@ abbrev pub all_there : List ObjectName → List Bool
 all_there ids = map (λ id. true) ids
 
 -- the store has all that the request asks for, and these are the objects of the wanted references
-pub record IsAdmitted (format : Format) (q : FetchAsked) (a : AdmissionFacts) (ids : List ObjectName) : Type 0 where
-  pub there : a.wants ≡ all_there q.wants
+pub record IsAdmitted (format : Format) (q : List Arg) (a : AdmissionFacts) (ids : List ObjectName) : Type 0 where
+  pub there : a.wants ≡ all_there (wants_in q)
   pub found : a.found ≡ map Some ids
-  pub all : length ids ≡ length q.want_refs
+  pub all : length ids ≡ length (want_refs_in q)
   pub of_format : All (λ id. id.format ≡ format) ids
 
 -- the store lacks the wanted object at some place, and has each before it
-pub record IsNotOurs (q : FetchAsked) (a : AdmissionFacts) : Type 0 where
+pub record IsNotOurs (q : List Arg) (a : AdmissionFacts) : Type 0 where
   pub at : ℕ
-  pub within : at < length q.wants
-  pub wants : a.wants ≡ all_there (take at q.wants) ++ false ∷ []
+  pub within : at < length (wants_in q)
+  pub wants : a.wants ≡ all_there (take at (wants_in q)) ++ false ∷ []
   pub none_found : a.found ≡ []
 
 -- the store has each wanted object, lacks the wanted reference at some place, and has each before it
-pub record IsUnknownRef (q : FetchAsked) (a : AdmissionFacts) : Type 0 where
+pub record IsUnknownRef (q : List Arg) (a : AdmissionFacts) : Type 0 where
   pub ids : List ObjectName
-  pub there : a.wants ≡ all_there q.wants
-  pub within : length ids < length q.want_refs
+  pub there : a.wants ≡ all_there (wants_in q)
+  pub within : length ids < length (want_refs_in q)
   pub found : a.found ≡ map Some ids ++ None ∷ []
 
 -- the request is refused by this name
-abbrev pub IsRefusedBy : Kind → FetchAsked → AdmissionFacts → Type 0
+abbrev pub IsRefusedBy : Kind → List Arg → AdmissionFacts → Type 0
 IsRefusedBy NotOurs q a = IsNotOurs q a
 IsRefusedBy UnknownRef q a = IsUnknownRef q a
 IsRefusedBy kind q a = ⊥
 
 -- ---- how far an admission has come
 
-pub record AtWant (at : ℕ) (q : FetchAsked) (a : AdmissionFacts) (ids : List ObjectName) : Type 0 where
-  pub within : at < length q.wants
-  pub so_far : a.wants ≡ all_there (take at q.wants)
+pub record AtWant (at : ℕ) (q : List Arg) (a : AdmissionFacts) (ids : List ObjectName) : Type 0 where
+  pub within : at < length (wants_in q)
+  pub so_far : a.wants ≡ all_there (take at (wants_in q))
   pub none_found : a.found ≡ []
   pub none_kept : ids ≡ []
 
-pub record AtWantRef (at : ℕ) (format : Format) (q : FetchAsked) (a : AdmissionFacts) (ids : List ObjectName) : Type 0 where
-  pub within : at < length q.want_refs
-  pub there : a.wants ≡ all_there q.wants
+pub record AtWantRef (at : ℕ) (format : Format) (q : List Arg) (a : AdmissionFacts) (ids : List ObjectName) : Type 0 where
+  pub within : at < length (want_refs_in q)
+  pub there : a.wants ≡ all_there (wants_in q)
   pub found : a.found ≡ map Some ids
   pub so_far : length ids ≡ at
   pub of_format : All (λ id. id.format ≡ format) ids
 
-abbrev pub StandsAtStep : AdmissionStep → Format → FetchAsked → AdmissionFacts → List ObjectName → Type 0
+abbrev pub StandsAtStep : AdmissionStep → Format → List Arg → AdmissionFacts → List ObjectName → Type 0
 StandsAtStep (AskWant at) format q a ids = AtWant at q a ids
 StandsAtStep (AskWantRef at) format q a ids = AtWantRef at format q a ids
 StandsAtStep Admitted format q a ids = IsAdmitted format q a ids
-StandsAtStep (Refused kind) format q a ids = (length ids ≤ length q.want_refs) × IsRefusedBy kind q a
+StandsAtStep (Refused kind) format q a ids = (length ids ≤ length (want_refs_in q)) × IsRefusedBy kind q a
 
 -- the first step if there is a value, else the second
 abbrev pub step_by : {X : Type 0} → Option X → AdmissionStep → AdmissionStep → AdmissionStep
@@ -102,10 +103,10 @@ is_want_ref (AskWantRef at) = true
 is_want_ref step = false
 
 module _ {A : Type 0} where
-  abbrev pub request_of : Admission A → Kept FetchAsked
+  abbrev pub request_of : Admission A → Kept (List Arg)
   request_of admission = admission.request
 
-  abbrev pub asked_of : Admission A → FetchAsked
+  abbrev pub asked_of : Admission A → List Arg
   asked_of admission = admission.request.asked
 
   abbrev pub format_of : Admission A → Format

@@ -3,7 +3,7 @@ use Rattle.std.specs.Prelude.{◌≡◌, ◌≢◌, ℕ, ◌<◌, ◌≤◌, Boo
 use Rattle.git_names.specs.declared.object_format.Format.{Format}
 use Rattle.git_pkt.specs.Packets.{Pkt, body_of, longest_payload, spelling_of}
 use Rattle.git_msg.specs.declared.Boundary.{Boundary}
-use Rattle.git_msg.specs.Asked.{FetchAsked, fetch, is_empty, no_progress_of, only_negotiates}
+use Rattle.git_msg.specs.Asked.{fetch, is_empty, only_negotiates, haves_in, shallows_in, want_refs_in, flag_among}
 use Rattle.git_msg.specs.Kept.{Kept}
 use Rattle.git_msg.specs.WrittenRequest.{text_line}
 use Rattle.git_server.specs.Packs.{whole, broken, packfile_header}
@@ -24,6 +24,8 @@ use Rattle.git_host.specs.declared.fetch_answer.ProgressReported.TheVariants as 
 use Rattle.git_host.specs.declared.fetch_answer.BoundaryEnd.{BoundaryEnd}
 use Rattle.git_host.specs.declared.fetch_answer.BoundaryEnd.TheVariants.{NotAsked, Absent, Packet as DelimGiven}
 use Rattle.git_host.specs.declared.fetch_answer.FetchAnswer.{FetchAnswer}
+use Rattle.git_msg.specs.Arguments.{Arg}
+use Rattle.git_msg.specs.declared.flags.Flag.{Flag}
 
 -- nothing was reported of the pack
 pub record NoPack (t : FetchFacts) : Type 0 where
@@ -46,15 +48,15 @@ WhereNegotiating true P = P
 WhereNegotiating false P = Unit {0}
 
 -- where it negotiates, each object that the client has was reported on, and the pack follows
-abbrev pub IsOpened : FetchAsked → FetchFacts → Type 0
-IsOpened q t = WhereNegotiating (negotiates q) ((length t.has ≡ length q.haves) × (readiness q t ≡ Some true))
+abbrev pub IsOpened : List Arg → FetchFacts → Type 0
+IsOpened q t = WhereNegotiating (negotiates q) ((length t.has ≡ length (haves_in q)) × (readiness q t ≡ Some true))
 
 -- the section of the boundary, as far as its lines were reported
 abbrev pub shallow_so_far : List Boundary → List Pkt
 shallow_so_far [] = []
 shallow_so_far (b ∷ bs) = text_line (codes "shallow-info") ∷ map boundary_packet (b ∷ bs)
 
-pub record AtHeader (q : FetchAsked) (t : FetchFacts) (given : List Pkt) : Type 0 where
+pub record AtHeader (q : List Arg) (t : FetchFacts) (given : List Pkt) : Type 0 where
   pub negotiates : negotiates q ≡ true
   pub none : t.has ≡ []
   pub given_is : given ≡ []
@@ -62,73 +64,73 @@ pub record AtHeader (q : FetchAsked) (t : FetchFacts) (given : List Pkt) : Type 
   pub after : NothingAfter t
 
 -- the objects that the client has were reported on up to this place
-pub record AtHave (next : ℕ) (any : Bool) (q : FetchAsked) (t : FetchFacts) (given : List Pkt) : Type 0 where
+pub record AtHave (next : ℕ) (any : Bool) (q : List Arg) (t : FetchFacts) (given : List Pkt) : Type 0 where
   pub negotiates : negotiates q ≡ true
   pub so_far : length t.has ≡ next
-  pub more : next < length q.haves
-  pub some : is_empty (picked t.has q.haves) ≡ not any
-  pub given_is : given ≡ acks_header ∷ map ack_packet (picked t.has q.haves)
+  pub more : next < length (haves_in q)
+  pub some : is_empty (picked t.has (haves_in q)) ≡ not any
+  pub given_is : given ≡ acks_header ∷ map ack_packet (picked t.has (haves_in q))
   pub unreported : t.ready ≡ None
   pub after : NothingAfter t
 
 -- the store has none of them
-pub record AtNak (q : FetchAsked) (t : FetchFacts) (given : List Pkt) : Type 0 where
+pub record AtNak (q : List Arg) (t : FetchFacts) (given : List Pkt) : Type 0 where
   pub negotiates : negotiates q ≡ true
-  pub all : length t.has ≡ length q.haves
-  pub none : picked t.has q.haves ≡ []
+  pub all : length t.has ≡ length (haves_in q)
+  pub none : picked t.has (haves_in q) ≡ []
   pub given_is : given ≡ acks_header ∷ []
   pub unreported : t.ready ≡ None
   pub after : NothingAfter t
 
-pub record AtReady (q : FetchAsked) (t : FetchFacts) (given : List Pkt) : Type 0 where
+pub record AtReady (q : List Arg) (t : FetchFacts) (given : List Pkt) : Type 0 where
   pub negotiates : negotiates q ≡ true
-  pub all : length t.has ≡ length q.haves
+  pub all : length t.has ≡ length (haves_in q)
   pub given_is : given ≡ acknowledgments q t
   pub unreported : t.ready ≡ None
   pub after : NothingAfter t
 
-pub record AtDelimiter (q : FetchAsked) (t : FetchFacts) (given : List Pkt) : Type 0 where
+pub record AtDelimiter (q : List Arg) (t : FetchFacts) (given : List Pkt) : Type 0 where
   pub negotiates : negotiates q ≡ true
-  pub all : length t.has ≡ length q.haves
+  pub all : length t.has ≡ length (haves_in q)
   pub is_ready : readiness q t ≡ Some true
   pub given_is : given ≡ acknowledgments q t ++ text_line (codes "ready") ∷ []
   pub after : NothingAfter t
 
 -- from here on the pack follows
-pub record AtShallow (any : Bool) (q : FetchAsked) (t : FetchFacts) (given : List Pkt) : Type 0 where
+pub record AtShallow (any : Bool) (q : List Arg) (t : FetchFacts) (given : List Pkt) : Type 0 where
   pub opened : IsOpened q t
   pub some : is_empty t.boundary ≡ not any
   pub given_is : given ≡ opening q t ++ shallow_so_far t.boundary
   pub no_pack : NoPack t
 
-pub record AtShallowLine (line : Boundary) (q : FetchAsked) (t : FetchFacts) (given : List Pkt) : Type 0 where
+pub record AtShallowLine (line : Boundary) (q : List Arg) (t : FetchFacts) (given : List Pkt) : Type 0 where
   pub opened : IsOpened q t
   pub first : t.boundary ≡ line ∷ []
   pub given_is : given ≡ opening q t ++ text_line (codes "shallow-info") ∷ []
   pub no_pack : NoPack t
 
-pub record AtWantedHeader (q : FetchAsked) (t : FetchFacts) (given : List Pkt) : Type 0 where
+pub record AtWantedHeader (q : List Arg) (t : FetchFacts) (given : List Pkt) : Type 0 where
   pub opened : IsOpened q t
   pub ended : t.boundary_ended ≡ true
-  pub some : is_empty q.want_refs ≡ false
+  pub some : is_empty (want_refs_in q) ≡ false
   pub given_is : given ≡ opening q t ++ shallow_info t.boundary
   pub no_pack : NoPack t
 
 -- the lines of the wanted references were sent up to this place
-pub record AtWanted (next : ℕ) (q : FetchAsked) (t : FetchFacts) (given : List Pkt) : Type 0 where
+pub record AtWanted (next : ℕ) (q : List Arg) (t : FetchFacts) (given : List Pkt) : Type 0 where
   pub opened : IsOpened q t
   pub ended : t.boundary_ended ≡ true
-  pub some : is_empty q.want_refs ≡ false
-  pub given_is : given ≡ (opening q t ++ shallow_info t.boundary) ++ text_line (codes "wanted-refs") ∷ wanted_lines (take next t.wanted) q.want_refs
+  pub some : is_empty (want_refs_in q) ≡ false
+  pub given_is : given ≡ (opening q t ++ shallow_info t.boundary) ++ text_line (codes "wanted-refs") ∷ wanted_lines (take next t.wanted) (want_refs_in q)
   pub no_pack : NoPack t
 
-pub record AtPackHeader (q : FetchAsked) (t : FetchFacts) (given : List Pkt) : Type 0 where
+pub record AtPackHeader (q : List Arg) (t : FetchFacts) (given : List Pkt) : Type 0 where
   pub opened : IsOpened q t
   pub ended : t.boundary_ended ≡ true
   pub given_is : given ≡ before_pack q t
   pub no_pack : NoPack t
 
-pub record AtPack (q : FetchAsked) (t : FetchFacts) (given : List Pkt) : Type 0 where
+pub record AtPack (q : List Arg) (t : FetchFacts) (given : List Pkt) : Type 0 where
   pub opened : IsOpened q t
   pub ended : t.boundary_ended ≡ true
   pub parts : List Pkt
@@ -136,7 +138,7 @@ pub record AtPack (q : FetchAsked) (t : FetchFacts) (given : List Pkt) : Type 0 
   pub given_is : given ≡ before_pack q t ++ (packfile_header ∷ parts)
 
 -- by the place, what was reported and what was sent
-abbrev pub StandsAt : Place → FetchAsked → FetchFacts → List Pkt → Type 0
+abbrev pub StandsAt : Place → List Arg → FetchFacts → List Pkt → Type 0
 StandsAt Header q t given = AtHeader q t given
 StandsAt (Have next any) q t given = AtHave next any q t given
 StandsAt Nak q t given = AtNak q t given
@@ -145,8 +147,8 @@ StandsAt Delimiter q t given = AtDelimiter q t given
 StandsAt (Shallow any) q t given = AtShallow any q t given
 StandsAt (ShallowLine line) q t given = AtShallowLine line q t given
 StandsAt WantedHeader q t given = AtWantedHeader q t given
-StandsAt (Wanted next) q t given = (next < length q.want_refs) × AtWanted next q t given
-StandsAt WantedEnd q t given = AtWanted (length q.want_refs) q t given
+StandsAt (Wanted next) q t given = (next < length (want_refs_in q)) × AtWanted next q t given
+StandsAt WantedEnd q t given = AtWanted (length (want_refs_in q)) q t given
 StandsAt PackHeader q t given = AtPackHeader q t given
 StandsAt Pack q t given = AtPack q t given
 StandsAt AtEnd q t given = IsFetchAnswerOf whole q t given
@@ -180,11 +182,11 @@ pub record Holds (bytes : List ℕ) (packet : Pkt) : Type 0 where
 
 module _ {A : Type 0} where
   -- the request, as it is kept
-  abbrev pub request_of : FetchAnswer A → Kept FetchAsked
+  abbrev pub request_of : FetchAnswer A → Kept (List Arg)
   request_of answer = answer.request
 
   -- what it asks for
-  abbrev pub asked_of : FetchAnswer A → FetchAsked
+  abbrev pub asked_of : FetchAnswer A → List Arg
   asked_of answer = answer.request.asked
 
   abbrev pub format_of : FetchAnswer A → Format
@@ -200,7 +202,7 @@ module _ {A : Type 0} where
   -- these facts were reported, and these packets were sent
   pub record Represents (t : FetchFacts) (given : List Pkt) (answer : FetchAnswer A) : Type 0 where
     pub wanted : t.wanted ≡ answer.wanted.items
-    pub all : length t.wanted ≡ length (asked_of answer).want_refs
+    pub all : length t.wanted ≡ length (want_refs_in (asked_of answer))
     pub sound : AreSoundFacts (format_of answer) (asked_of answer) t
     pub stands : StandsAt answer.place (asked_of answer) t given
 
@@ -330,11 +332,11 @@ module _ {A : Type 0} where
   ReportsLine line Line.Packet old bytes new = ReportsAndGives (with_line line) old bytes new
   ReportsLine line Line.NotAsked old bytes new = new ≡ old
   ReportsLine line Line.MixedFormats old bytes new = (new ≡ old) × ((object_of line).format ≢ format_of old)
-  ReportsLine line Line.NotShallow old bytes new = (new ≡ old) × ¬ IsUnshallowOf (asked_of old).shallows line
+  ReportsLine line Line.NotShallow old bytes new = (new ≡ old) × ¬ IsUnshallowOf (shallows_in (asked_of old)) line
 
   -- the request wants no progress
   abbrev pub WantsNoProgress : FetchAnswer A → Type 0
-  WantsNoProgress answer = no_progress_of (fetch (asked_of answer)) ≡ true
+  WantsNoProgress answer = flag_among (asked_of answer) Flag.NoProgress ≡ true
 
   -- what bytes of the progress do
   abbrev pub ReportsProgress : List ℕ → ProgressReported → FetchAnswer A → List ℕ → FetchAnswer A → Type 0

@@ -9,7 +9,7 @@ use Rattle.git_pkt.specs.declared.fault.Kind.{Kind}
 use Rattle.git_msg.specs.declared.requests.Request.{Request}
 use Rattle.git_msg.specs.Kept.{Kept}
 use Rattle.git_msg.specs.Machine.HeldRequest.{asked_of as request_asked, holding_of}
-use Rattle.git_msg.specs.Asked.{Asked, FetchAsked, LsRefsAsked, ObjectInfoAsked, fetch, ls_refs, object_info}
+use Rattle.git_msg.specs.Asked.{Asked, fetch, ls_refs, object_info, shallows_in}
 use Rattle.git_server.specs.Packs.{Manner, whole, broken}
 use Rattle.git_server.specs.Objects.{object_of}
 use Rattle.git_server.specs.Answers.{reference_packet}
@@ -64,6 +64,7 @@ use Rattle.git_host.specs.declared.report.Report.{Report}
 use Rattle.git_host.specs.declared.report.Report.TheVariants.{Want, WantRef, Have, Ready, Boundary, BoundaryEnd as EndsBoundary, Pack, Progress}
 use Rattle.git_host.specs.declared.report.Report.TheVariants.{PackEnd, Failed}
 use Rattle.git_host.specs.declared.report.Report.TheVariants.{Reference, Unborn, ReferencesEnd, Size}
+use Rattle.git_msg.specs.Arguments.{Arg}
 
 -- ---- what a report adds to what was reported for its request
 
@@ -211,7 +212,7 @@ pub record IsWithinLimit {Q : Type 0} (limit : ℕ) (request : Kept Q) : Type 0 
 
 module _ {A : Type 0} where
   -- an admission stands so: it is not through, nothing was reported for the answer but the objects of wanted references, and no packet was sent
-  pub record IsAdmitting (m : Terms) (q : FetchAsked) (a : AdmissionFacts) (t : FetchFacts) (front : List Pkt)
+  pub record IsAdmitting (m : Terms) (q : List Arg) (a : AdmissionFacts) (t : FetchFacts) (front : List Pkt)
       (admission : AdmissionMachine A) : Type 0 where
     pub asked : asked_of admission ≡ q
     pub format_is : format_of admission ≡ m.format
@@ -221,7 +222,7 @@ module _ {A : Type 0} where
     pub none : front ≡ []
 
   -- an answer to a fetch that was admitted
-  pub record IsFetching (m : Terms) (q : FetchAsked) (a : AdmissionFacts) (t : FetchFacts) (front : List Pkt) (answer : FetchAnswer A) : Type 0 where
+  pub record IsFetching (m : Terms) (q : List Arg) (a : AdmissionFacts) (t : FetchFacts) (front : List Pkt) (answer : FetchAnswer A) : Type 0 where
     pub asked : fetch_of answer ≡ q
     pub format_is : fetch_format answer ≡ m.format
     pub bounded : IsWithinLimit m.limit answer.request
@@ -229,13 +230,13 @@ module _ {A : Type 0} where
     pub represents : Represents t front answer
 
   -- an answer for references
-  pub record IsListing (m : Terms) (q : LsRefsAsked) (t : ReferencesFacts) (front : List Pkt) (answer : ReferencesAnswer A) : Type 0 where
+  pub record IsListing (m : Terms) (q : List Arg) (t : ReferencesFacts) (front : List Pkt) (answer : ReferencesAnswer A) : Type 0 where
     pub format_is : references_format answer ≡ m.format
     pub bounded : IsWithinLimit m.limit answer.listing
     pub represents : RepresentsReferences q t front answer
 
   -- an answer about sizes
-  pub record IsSizing (m : Terms) (q : ObjectInfoAsked) (sizes : List (Option ℕ)) (front : List Pkt) (answer : SizesAnswer A) : Type 0 where
+  pub record IsSizing (m : Terms) (q : List Arg) (sizes : List (Option ℕ)) (front : List Pkt) (answer : SizesAnswer A) : Type 0 where
     pub asked : sizes_asked answer ≡ q
     pub bounded : IsWithinLimit m.limit answer.request
     pub represents : RepresentsSizes sizes front answer
@@ -332,7 +333,7 @@ module _ {A : Type 0} where
   IsReason (WantRef id) (Admission admission) MixedFormats = IsOfOtherFormat id admission
   IsReason (WantRef id) (Admission admission) OutOfMemory = is_want_ref (step_of admission) ≡ true
   IsReason (Boundary line) (Fetch answer) MixedFormats = (object_of line).format ≢ fetch_format answer
-  IsReason (Boundary line) (Fetch answer) NotShallow = ¬ IsUnshallowOf (fetch_of answer).shallows line
+  IsReason (Boundary line) (Fetch answer) NotShallow = ¬ IsUnshallowOf (shallows_in (fetch_of answer)) line
   IsReason (Reference entry) (References answer) MixedFormats = IsUnsoundAfter entry answer
   IsReason (Reference entry) (References answer) Unsorted = IsUnsoundAfter entry answer
   IsReason (Reference entry) (References answer) HeadTwice = IsUnsoundAfter entry answer

@@ -15,6 +15,7 @@ use Rattle.git_host.specs.declared.host_server.Phase.TheVariants.{Asked as Whole
 use Rattle.git_host.specs.declared.host_server.HostServer.{HostServer}
 use Rattle.git_host.specs.declared.report.HostReported.{HostReported}
 use Rattle.git_host.specs.declared.report.HostReported.TheVariants.{OutOfMemory}
+use Rattle.git_msg.specs.Asked.{want_refs_in}
 
 module _ {A : Type 0} where
   -- the bytes counted of the lines of the request that is asked about or answered, and those stored of their values
@@ -69,8 +70,8 @@ module _ {A : Type 0} where
   ReportNeedsRefusal refuses old reported = reported ≡ OutOfMemory → HasRefused refuses (33 * (objects_by old + 1))
 
   abbrev pub wanted_for : HostAnswer A → ℕ
-  wanted_for (Admission answer) = length answer.request.asked.want_refs
-  wanted_for (Fetch answer) = length answer.request.asked.want_refs
+  wanted_for (Admission answer) = length (want_refs_in answer.request.asked)
+  wanted_for (Fetch answer) = length (want_refs_in answer.request.asked)
   wanted_for answer = 0
 
   abbrev pub wanted_in : Phase A → ℕ

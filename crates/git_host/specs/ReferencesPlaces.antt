@@ -5,7 +5,7 @@ use Rattle.std.specs.Str.{bytes_eq}
 use Rattle.git_names.specs.declared.object_format.Format.{Format}
 use Rattle.git_names.specs.RefName.{IsRefName}
 use Rattle.git_pkt.specs.Packets.{Pkt, spelling_of}
-use Rattle.git_msg.specs.Asked.{LsRefsAsked}
+use Rattle.git_msg.specs.Asked.{ref_prefixes_in, peel_in, symrefs_in, unborn_in}
 use Rattle.git_msg.specs.Kept.{Kept}
 use Rattle.git_msg.specs.Prefixes.{ShowAlike}
 use Rattle.git_server.specs.Answers.{reference_packet, reference_packets, shown_refs, unborn_packets}
@@ -20,6 +20,7 @@ use Rattle.git_host.specs.declared.references_answer.Reported.{Reported}
 use Rattle.git_host.specs.declared.references_answer.Reported.TheVariants.{Packet, Hidden, NotAsked}
 use Rattle.git_host.specs.declared.references_answer.ReferencesAnswer.{ReferencesAnswer}
 use Rattle.git_host.specs.declared.report.ReferenceFault.{ReferenceFault}
+use Rattle.git_msg.specs.Arguments.{Arg}
 
 -- what a store reported for one request for references: what an unborn `HEAD` points to, its references, and whether those are all of them
 pub record ReferencesFacts : Type 0 where
@@ -38,7 +39,7 @@ pub record AreSoundReferences (format : Format) (t : ReferencesFacts) : Type 0 w
   pub unborn : ForSome t.unborn (IsUnbornHead t.refs)
 
 -- the packets are the answer to the request by what was reported
-pub record IsReferencesAnswerOf (format : Format) (q : LsRefsAsked) (t : ReferencesFacts) (packets : List Pkt) : Type 0 where
+pub record IsReferencesAnswerOf (format : Format) (q : List Arg) (t : ReferencesFacts) (packets : List Pkt) : Type 0 where
   pub sound : AreSoundReferences format t
   pub ended : t.ended ≡ true
   pub packets_are : packets ≡ unborn_packets q t.unborn ++ reference_packets q t.refs
@@ -49,18 +50,18 @@ IsLast refs None = refs ≡ []
 IsLast refs (Some name) = (front : List Entry) × (entry : Entry) × (refs ≡ front ++ entry ∷ []) × (entry.name ≡ name)
 
 -- the request that is answered is this one, but for the order of its prefixes
-pub record IsAlike (q kept : LsRefsAsked) : Type 0 where
-  pub symrefs : kept.symrefs ≡ q.symrefs
-  pub peel : kept.peel ≡ q.peel
-  pub unborn : kept.unborn ≡ q.unborn
-  pub alike : ShowAlike q.ref_prefixes kept.ref_prefixes
+pub record IsAlike (q kept : List Arg) : Type 0 where
+  pub symrefs : (symrefs_in kept) ≡ (symrefs_in q)
+  pub peel : (peel_in kept) ≡ (peel_in q)
+  pub unborn : (unborn_in kept) ≡ (unborn_in q)
+  pub alike : ShowAlike (ref_prefixes_in q) (ref_prefixes_in kept)
 
 -- the packets that what was reported so far calls for
-abbrev pub packets_so_far : LsRefsAsked → ReferencesFacts → List Pkt
-packets_so_far q t = unborn_packets q t.unborn ++ map (reference_packet q.symrefs q.peel) (shown_refs q.ref_prefixes t.refs)
+abbrev pub packets_so_far : List Arg → ReferencesFacts → List Pkt
+packets_so_far q t = unborn_packets q t.unborn ++ map (reference_packet (symrefs_in q) (peel_in q)) (shown_refs (ref_prefixes_in q) t.refs)
 
 -- references were reported, perhaps none so far
-pub record AtEntries (format : Format) (q : LsRefsAsked) (t : ReferencesFacts) (last : Option (List ℕ)) (given : List Pkt) : Type 0 where
+pub record AtEntries (format : Format) (q : List Arg) (t : ReferencesFacts) (last : Option (List ℕ)) (given : List Pkt) : Type 0 where
   pub sound : AreSoundReferences format t
   pub last_is : IsLast t.refs last
   pub given_is : given ≡ packets_so_far q t
@@ -71,7 +72,7 @@ pub record AtFirst (t : ReferencesFacts) (last : Option (List ℕ)) (given : Lis
   pub last_is : last ≡ None
   pub given_is : given ≡ []
 
-abbrev pub StandsAtReferences : ReferencesPlace → Format → LsRefsAsked → ReferencesFacts → Option (List ℕ) → List Pkt → Type 0
+abbrev pub StandsAtReferences : ReferencesPlace → Format → List Arg → ReferencesFacts → Option (List ℕ) → List Pkt → Type 0
 StandsAtReferences First format q t last given = AtFirst t last given
 StandsAtReferences Entries format q t last given = (t.unborn ≡ None) × AtEntries format q t last given
 StandsAtReferences AfterUnborn format q t last given = IsSome t.unborn × AtEntries format q t last given
@@ -120,12 +121,12 @@ module _ {A : Type 0} where
   HasBegun answer = answer.place ≢ First
 
   -- these facts were reported for a request, and these packets were sent
-  pub record RepresentsReferences (q : LsRefsAsked) (t : ReferencesFacts) (given : List Pkt) (answer : ReferencesAnswer A) : Type 0 where
+  pub record RepresentsReferences (q : List Arg) (t : ReferencesFacts) (given : List Pkt) (answer : ReferencesAnswer A) : Type 0 where
     pub alike : IsAlike q answer.listing.asked
     pub stands : StandsAtReferences answer.place answer.format q t (last_reported answer) given
 
   -- no more is kept of this request than of the other
-  pub record KeepsAs (request : Kept LsRefsAsked) (answer : ReferencesAnswer A) : Type 0 where
+  pub record KeepsAs (request : Kept (List Arg)) (answer : ReferencesAnswer A) : Type 0 where
     pub kept : answer.listing.kept ≡ request.kept
     pub stored : answer.listing.stored ≤ request.stored
 
@@ -135,22 +136,22 @@ module _ {A : Type 0} where
     pub keeps : KeepsAs old.listing new
 
   -- the answer is new
-  abbrev pub Starts : LsRefsAsked → ReferencesAnswer A → Type 0
+  abbrev pub Starts : List Arg → ReferencesAnswer A → Type 0
   Starts q answer = RepresentsReferences q no_references [] answer
 
   -- the facts become these, and these bytes are the next packet
   abbrev pub ReportsOn : (ReferencesFacts → ReferencesFacts) → ReferencesAnswer A → List ℕ → ReferencesAnswer A → Type 0
-  ReportsOn with old bytes new = (q : LsRefsAsked) (t : ReferencesFacts) (given : List Pkt) → RepresentsReferences q t given old
+  ReportsOn with old bytes new = (q : List Arg) (t : ReferencesFacts) (given : List Pkt) → RepresentsReferences q t given old
       → (packet : Pkt) × Holds bytes packet × RepresentsReferences q (with t) (given ++ packet ∷ []) new
 
   -- the facts become these, and no packet is sent
   abbrev pub ReportsHidden : (ReferencesFacts → ReferencesFacts) → ReferencesAnswer A → ReferencesAnswer A → Type 0
   ReportsHidden with old new =
-      (q : LsRefsAsked) (t : ReferencesFacts) (given : List Pkt) → RepresentsReferences q t given old → RepresentsReferences q (with t) given new
+      (q : List Arg) (t : ReferencesFacts) (given : List Pkt) → RepresentsReferences q t given old → RepresentsReferences q (with t) given new
 
   -- no sound repository has what was reported together with this reference
   abbrev pub IsUnsoundAfter : Entry → ReferencesAnswer A → Type 0
-  IsUnsoundAfter entry old = (q : LsRefsAsked) (t : ReferencesFacts) (given : List Pkt) → RepresentsReferences q t given old
+  IsUnsoundAfter entry old = (q : List Arg) (t : ReferencesFacts) (given : List Pkt) → RepresentsReferences q t given old
       → ¬ AreSoundReferences (format_of old) (with_ref entry t)
 
   -- what the report of a reference does
@@ -176,10 +177,10 @@ module _ {A : Type 0} where
 module _ {A : Type 0} where
   -- whether the request asks for the names that references point to, and for the objects that annotated tags peel to
   abbrev pub symrefs_of : ReferencesAnswer A → Bool
-  symrefs_of answer = answer.listing.asked.symrefs
+  symrefs_of answer = symrefs_in answer.listing.asked
 
   abbrev pub peel_of : ReferencesAnswer A → Bool
-  peel_of answer = answer.listing.asked.peel
+  peel_of answer = peel_in answer.listing.asked
 
   -- what the report of any reference with this name and with objects of the format does
   abbrev pub TakesReference : Format → List ℕ → ReferencesAnswer A → Result Reported ReferenceFault → ReferencesAnswer A → Type 0

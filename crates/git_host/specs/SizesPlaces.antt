@@ -2,7 +2,7 @@
 use Rattle.std.specs.Prelude.{◌≡◌, ℕ, ◌<◌, ◌≤◌, Bool, true, false, List, [], ◌∷◌, ◌++◌, length, Option, codes}
 use Rattle.git_names.specs.ObjectName.{ObjectName}
 use Rattle.git_pkt.specs.Packets.{Pkt, flush}
-use Rattle.git_msg.specs.Asked.{ObjectInfoAsked}
+use Rattle.git_msg.specs.Asked.{oids_in}
 use Rattle.git_msg.specs.Kept.{Kept}
 use Rattle.git_msg.specs.ResponseLines.{info_text}
 use Rattle.git_msg.specs.WrittenRequest.{text_line}
@@ -12,6 +12,7 @@ use Rattle.git_host.specs.declared.sizes_answer.SizesPlace.TheVariants.{Header, 
 use Rattle.git_host.specs.declared.sizes_answer.SizesStep.{SizesStep}
 use Rattle.git_host.specs.declared.sizes_answer.SizesStep.TheVariants.{Packet, AskSize, Whole as AllGiven}
 use Rattle.git_host.specs.declared.sizes_answer.SizesAnswer.{SizesAnswer}
+use Rattle.git_msg.specs.Arguments.{Arg}
 
 -- the line of an object
 abbrev pub size_line : Option ℕ → ObjectName → Pkt
@@ -23,25 +24,25 @@ size_lines (size ∷ sizes) (id ∷ ids) = size_line size id ∷ size_lines size
 size_lines _ _ = []
 
 -- the size of each object was reported, and the packets are the answer by these sizes
-pub record IsSizesAnswerOf (q : ObjectInfoAsked) (sizes : List (Option ℕ)) (packets : List Pkt) : Type 0 where
-  pub all : length sizes ≡ length q.oids
-  pub packets_are : packets ≡ text_line (codes "size") ∷ (size_lines sizes q.oids ++ flush ∷ [])
+pub record IsSizesAnswerOf (q : List Arg) (sizes : List (Option ℕ)) (packets : List Pkt) : Type 0 where
+  pub all : length sizes ≡ length (oids_in q)
+  pub packets_are : packets ≡ text_line (codes "size") ∷ (size_lines sizes (oids_in q) ++ flush ∷ [])
 
-pub record AtObject (at : ℕ) (q : ObjectInfoAsked) (sizes : List (Option ℕ)) (given : List Pkt) : Type 0 where
+pub record AtObject (at : ℕ) (q : List Arg) (sizes : List (Option ℕ)) (given : List Pkt) : Type 0 where
   pub so_far : length sizes ≡ at
-  pub within : at ≤ length q.oids
-  pub given_is : given ≡ text_line (codes "size") ∷ size_lines sizes q.oids
+  pub within : at ≤ length (oids_in q)
+  pub given_is : given ≡ text_line (codes "size") ∷ size_lines sizes (oids_in q)
 
-abbrev pub StandsAtSizes : SizesPlace → ObjectInfoAsked → List (Option ℕ) → List Pkt → Type 0
+abbrev pub StandsAtSizes : SizesPlace → List Arg → List (Option ℕ) → List Pkt → Type 0
 StandsAtSizes Header q sizes given = (sizes ≡ []) × (given ≡ [])
 StandsAtSizes (Object at) q sizes given = AtObject at q sizes given
 StandsAtSizes Whole q sizes given = IsSizesAnswerOf q sizes given
 
 module _ {A : Type 0} where
-  abbrev pub sizes_request : SizesAnswer A → Kept ObjectInfoAsked
+  abbrev pub sizes_request : SizesAnswer A → Kept (List Arg)
   sizes_request answer = answer.request
 
-  abbrev pub sizes_asked : SizesAnswer A → ObjectInfoAsked
+  abbrev pub sizes_asked : SizesAnswer A → List Arg
   sizes_asked answer = answer.request.asked
 
   -- these sizes were reported, and these packets were sent
@@ -50,7 +51,7 @@ module _ {A : Type 0} where
 
   -- the size of the object at this place is asked
   abbrev pub IsAsking : SizesAnswer A → ℕ → Type 0
-  IsAsking answer at = (answer.place ≡ Object at) × (at < length (sizes_asked answer).oids)
+  IsAsking answer at = (answer.place ≡ Object at) × (at < length (oids_in (sizes_asked answer)))
 
   -- whether a size is asked
   abbrev pub Asks : SizesAnswer A → Bool → Type 0

@@ -9,6 +9,7 @@
 
 ghost use Rattle.std.specs.Prelude.{◌≡◌, ◌+◌, ◌*◌, ◌<◌, OnErr, length};
 ghost use Rattle.git_host.specs.Admissions.{reference_step, want_step};
+ghost use Rattle.git_msg.specs.Asked.{want_refs_in, wants_in};
 
 use crate::fetch_answer::FetchAnswer;
 use git_msg::{Fetch, Memory};
@@ -146,7 +147,7 @@ impl<A: Memory + Copy> Admission<A> {
 
 // What is asked from the wanted object at this place on.
 fn want_at<A: Allocator + Copy>(request: &Fetch<A>, at: usize) -> AdmissionStep
-    ensures { result ≡ want_step at request.now.asked.wants request.now.asked.want_refs }
+    ensures { result ≡ want_step at (wants_in request.now.asked) (want_refs_in request.now.asked) }
 {
     match request.wants().get(at) {
         Some(_) => AdmissionStep::AskWant(at),
@@ -156,7 +157,7 @@ fn want_at<A: Allocator + Copy>(request: &Fetch<A>, at: usize) -> AdmissionStep
 
 // What is asked after the wanted object at this place.
 fn after_want<A: Allocator + Copy>(request: &Fetch<A>, at: usize) -> AdmissionStep
-    ensures { at < length request.now.asked.wants → result ≡ want_step (at + 1) request.now.asked.wants request.now.asked.want_refs }
+    ensures { at < length (wants_in request.now.asked) → result ≡ want_step (at + 1) (wants_in request.now.asked) (want_refs_in request.now.asked) }
 {
     let count = request.wants().len();
     if at < count {
@@ -167,7 +168,7 @@ fn after_want<A: Allocator + Copy>(request: &Fetch<A>, at: usize) -> AdmissionSt
 
 // What is asked from the wanted reference at this place on.
 fn want_ref_at<A: Allocator + Copy>(request: &Fetch<A>, at: usize) -> AdmissionStep
-    ensures { result ≡ reference_step at request.now.asked.want_refs }
+    ensures { result ≡ reference_step at (want_refs_in request.now.asked) }
 {
     match request.want_ref(at) {
         Some(_) => AdmissionStep::AskWantRef(at),
@@ -177,7 +178,7 @@ fn want_ref_at<A: Allocator + Copy>(request: &Fetch<A>, at: usize) -> AdmissionS
 
 // What is asked after the wanted reference at this place.
 fn after_want_ref<A: Allocator + Copy>(request: &Fetch<A>, at: usize) -> AdmissionStep
-    ensures { at < length request.now.asked.want_refs → result ≡ reference_step (at + 1) request.now.asked.want_refs }
+    ensures { at < length (want_refs_in request.now.asked) → result ≡ reference_step (at + 1) (want_refs_in request.now.asked) }
 {
     match request.want_ref(at) {
         Some(_) => want_ref_at(request, at + 1),

@@ -15,11 +15,12 @@ ghost use Rattle.git_server.specs.FetchAnswers.{ack_packet};
 ghost use Rattle.git_host.specs.FetchPlaces.{Holds};
 ghost use Rattle.git_pkt.specs.Bands.{band_packet};
 ghost use Rattle.git_pkt.specs.Packets.{longest_payload, spelling_of};
-ghost use Rattle.git_msg.specs.Asked.{fetch, is_empty, no_progress_of, only_negotiates};
+ghost use Rattle.git_msg.specs.Asked.{fetch, is_empty, only_negotiates, haves_in, want_refs_in, flag_among};
 ghost use Rattle.git_server.specs.FetchAnswers.{negotiates};
 ghost use Rattle.git_server.specs.Objects.{object_of};
 ghost use Rattle.git_host.specs.FetchFacts.{may_have};
 ghost use Rattle.git_host.specs.FetchPlaces.{after_boundary, after_haves, place_by};
+ghost use Rattle.git_msg.specs.declared.flags.Flag.{Flag};
 
 use git_msg::{Boundary, Fetch, WantedRef, put_ack, put_boundary, put_line, put_wanted};
 use git_names::{Format, Oid};
@@ -131,7 +132,7 @@ impl<A: Allocator + Copy> FetchAnswer<A> {
     /// The answer to this request, before its first packet. Its object names have this format. Each of its wanted references
     /// points to the object at the same place.
     pub fn new(request: Fetch<A>, wanted: Vec<Oid, A>, format: Format) -> FetchAnswer<A>
-        requires { length wanted.items ≡ length request.asked.want_refs }
+        requires { length wanted.items ≡ length (want_refs_in request.asked) }
         ensures request { request_of result ≡ request }
         ensures format { format_of result ≡ format }
         ensures represents { Represents (no_facts wanted.items) [] result }
@@ -143,7 +144,7 @@ impl<A: Allocator + Copy> FetchAnswer<A> {
     pub(crate) fn begin(request: Fetch<A>, wanted: Vec<Oid, A>, format: Format) -> FetchAnswer<A>
         ensures request { request_of result ≡ request }
         ensures format { format_of result ≡ format }
-        ensures represents { length wanted.items ≡ length request.asked.want_refs → Represents (no_facts wanted.items) [] result }
+        ensures represents { length wanted.items ≡ length (want_refs_in request.asked) → Represents (no_facts wanted.items) [] result }
     {
         let place = first_place(&request);
         FetchAnswer {
@@ -415,7 +416,7 @@ fn commit_of(line: &Boundary) -> Oid
 
 // Whether progress is dropped, since the request wants none.
 fn drops_progress<A: Allocator + Copy>(request: &Fetch<A>) -> bool
-    ensures { result ≡ no_progress_of (fetch request.now.asked) }
+    ensures { result ≡ flag_among request.now.asked Flag.NoProgress }
 {
     request.no_progress()
 }
@@ -451,8 +452,8 @@ fn first_place<A: Allocator + Copy>(request: &Fetch<A>) -> Place
 
 // The place from the first have on.
 fn first_have<A: Allocator + Copy>(request: &Fetch<A>) -> Place
-    ensures more { 0 < length request.now.asked.haves → result ≡ Place.Have 0 false }
-    ensures over { length request.now.asked.haves ≤ 0 → result ≡ after_haves false }
+    ensures more { 0 < length (haves_in request.now.asked) → result ≡ Place.Have 0 false }
+    ensures over { length (haves_in request.now.asked) ≤ 0 → result ≡ after_haves false }
 {
     if request.haves().is_empty() {
         return Place::Nak;
@@ -462,8 +463,8 @@ fn first_have<A: Allocator + Copy>(request: &Fetch<A>) -> Place
 
 // The place after a have, where one was common so far or none was.
 fn after_have<A: Allocator + Copy>(request: &Fetch<A>, at: usize, any: bool) -> Place
-    ensures more { at + 1 < length request.now.asked.haves → result ≡ Place.Have (at + 1) any }
-    ensures over { length request.now.asked.haves ≤ at + 1 → result ≡ after_haves any }
+    ensures more { at + 1 < length (haves_in request.now.asked) → result ≡ Place.Have (at + 1) any }
+    ensures over { length (haves_in request.now.asked) ≤ at + 1 → result ≡ after_haves any }
 {
     let count = request.haves().len();
     if at < count && at + 1 < count {
@@ -477,7 +478,7 @@ fn after_have<A: Allocator + Copy>(request: &Fetch<A>, at: usize, any: bool) -> 
 
 // The place after the shallow boundary.
 fn after_boundary<A: Allocator + Copy>(request: &Fetch<A>) -> Place
-    ensures { result ≡ after_boundary (is_empty request.now.asked.want_refs) }
+    ensures { result ≡ after_boundary (is_empty (want_refs_in request.now.asked)) }
 {
     if request.want_ref(0).is_none() {
         return Place::PackHeader;
@@ -487,8 +488,8 @@ fn after_boundary<A: Allocator + Copy>(request: &Fetch<A>) -> Place
 
 // The place after a wanted reference.
 fn after_wanted<A: Allocator + Copy>(request: &Fetch<A>, at: usize) -> Place
-    ensures more { at + 1 < length request.now.asked.want_refs → result ≡ Place.Wanted (at + 1) }
-    ensures over { length request.now.asked.want_refs ≤ at + 1 → result ≡ Place.WantedEnd }
+    ensures more { at + 1 < length (want_refs_in request.now.asked) → result ≡ Place.Wanted (at + 1) }
+    ensures over { length (want_refs_in request.now.asked) ≤ at + 1 → result ≡ Place.WantedEnd }
 {
     match request.want_ref(at) {
         Some(_) => wanted_at(request, at + 1),
@@ -497,8 +498,8 @@ fn after_wanted<A: Allocator + Copy>(request: &Fetch<A>, at: usize) -> Place
 }
 
 fn wanted_at<A: Allocator + Copy>(request: &Fetch<A>, at: usize) -> Place
-    ensures more { at < length request.now.asked.want_refs → result ≡ Place.Wanted at }
-    ensures over { length request.now.asked.want_refs ≤ at → result ≡ Place.WantedEnd }
+    ensures more { at < length (want_refs_in request.now.asked) → result ≡ Place.Wanted at }
+    ensures over { length (want_refs_in request.now.asked) ≤ at → result ≡ Place.WantedEnd }
 {
     if request.want_ref(at).is_none() {
         return Place::WantedEnd;
@@ -524,7 +525,7 @@ fn put_on_band(hold: &mut Hold, band: Band, bytes: &[u8])
 
 // Makes the hold the line of the have at this place, where there is one.
 fn put_common<A: Allocator + Copy>(hold: &mut Hold, request: &Fetch<A>, at: usize)
-    ensures { (id : ObjectName) → slice_get request.now.asked.haves at ≡ Some id → Holds hold.new.items (ack_packet id) }
+    ensures { (id : ObjectName) → slice_get (haves_in request.now.asked) at ≡ Some id → Holds hold.new.items (ack_packet id) }
 {
     match request.haves().get(at) {
         Some(id) => put_ack(hold, id),
@@ -534,7 +535,7 @@ fn put_common<A: Allocator + Copy>(hold: &mut Hold, request: &Fetch<A>, at: usiz
 
 // Makes the hold the line of the wanted reference at this place, where there is one, with its object.
 fn put_found<A: Allocator + Copy>(hold: &mut Hold, request: &Fetch<A>, at: usize, wanted: &[Oid])
-    ensures { (name : List ℕ) (id : ObjectName) → slice_get request.now.asked.want_refs at ≡ Some name → slice_get wanted.now at ≡ Some id
+    ensures { (name : List ℕ) (id : ObjectName) → slice_get (want_refs_in request.now.asked) at ≡ Some name → slice_get wanted.now at ≡ Some id
         → Holds hold.new.items (text_line (wanted_text (wanted_of id name))) }
 {
     let Some(name) = request.want_ref(at) else {

@@ -5,7 +5,7 @@ ghost use Rattle.git_names.specs.declared.object_format.Format.{Format};
 ghost use Rattle.git_pkt.specs.Packets.{Pkt};
 ghost use Rattle.git_pkt.specs.Bands.{AreBands};
 ghost use Rattle.git_pkt.specs.declared.band.Band.TheVariants as Band;
-ghost use Rattle.git_msg.specs.Asked.{FetchAsked, LsRefsAsked, ObjectInfoAsked, fetch, ls_refs, no_progress_of, object_info};
+ghost use Rattle.git_msg.specs.Asked.{Asked, fetch, ls_refs, object_info, oids_in, flag_among};
 ghost use Rattle.git_server.specs.Packs.{Manner, whole};
 ghost use Rattle.git_server.specs.Repository.{Repository};
 ghost use Rattle.git_server.specs.Answers.{IsAnswerAs};
@@ -25,6 +25,8 @@ ghost use Rattle.git_host.specs.declared.report.HostReported.{HostReported};
 ghost use Rattle.git_host.specs.declared.report.HostStep.{HostStep};
 ghost use Rattle.git_host.specs.declared.report.ReferenceFault.{ReferenceFault};
 ghost use Rattle.git_host.specs.declared.report.Report.{Report};
+ghost use Rattle.git_msg.specs.Arguments.{Arg};
+ghost use Rattle.git_msg.specs.declared.flags.Flag.{Flag};
 
 use crate::host_server::HostServer;
 use git_msg::Memory;
@@ -32,26 +34,26 @@ use std::alloc::Allocator;
 
 /// If what was reported for a fetch is what a repository answers, what is sent is an answer of the repository, whole or broken off.
 pub fn fetch_answer_is_a_repositorys()
-    ensures { (manner : Manner) (repo : Repository) (q : FetchAsked) (t : FetchFacts) (packets : List Pkt) → AreOfRepository manner repo q t
+    ensures { (manner : Manner) (repo : Repository) (q : List Arg) (t : FetchFacts) (packets : List Pkt) → AreOfRepository manner repo q t
         → IsFetchAnswerOf manner q t packets → IsAnswerAs manner repo (fetch q) packets }
 {}
 
 /// The same of references: those reported are the repository's, and what an unborn `HEAD` points to.
 pub fn references_answer_is_a_repositorys()
-    ensures { (repo : Repository) (format : Format) (q : LsRefsAsked) (t : ReferencesFacts) (packets : List Pkt) → t.refs ≡ repo.refs
+    ensures { (repo : Repository) (format : Format) (q : List Arg) (t : ReferencesFacts) (packets : List Pkt) → t.refs ≡ repo.refs
         → t.unborn ≡ repo.unborn_head → IsReferencesAnswerOf format q t packets → IsAnswerAs whole repo (ls_refs q) packets }
 {}
 
 /// The same of sizes.
 pub fn sizes_answer_is_a_repositorys()
-    ensures { (repo : Repository) (q : ObjectInfoAsked) (sizes : List (Option ℕ)) (packets : List Pkt) → sizes ≡ map repo.object_size q.oids
+    ensures { (repo : Repository) (q : List Arg) (sizes : List (Option ℕ)) (packets : List Pkt) → sizes ≡ map repo.object_size (oids_in q)
         → IsSizesAnswerOf q sizes packets → IsAnswerAs whole repo (object_info q) packets }
 {}
 
 /// If a request wants no progress, what is sent after the header of the pack has bytes of the pack alone, on its band.
 pub fn no_progress_is_given()
-    ensures { (manner : Manner) (format : Format) (q : FetchAsked) (t : FetchFacts) (packets : List Pkt) → IsSoundFetchAnswer manner format q t packets
-        → no_progress_of (fetch q) ≡ true → (pack : HasPack manner q t packets) → AreBands Band.Pack t.pack pack.parts }
+    ensures { (manner : Manner) (format : Format) (q : List Arg) (t : FetchFacts) (packets : List Pkt) → IsSoundFetchAnswer manner format q t packets
+        → flag_among q Flag.NoProgress ≡ true → (pack : HasPack manner q t packets) → AreBands Band.Pack t.pack pack.parts }
 {}
 
 /// However the input is cut, after any calls of a host's server that was new before them it holds at most 65,520 buffered bytes, twice its limit

@@ -58,7 +58,7 @@ pub struct ReferencesAnswer<A: Allocator + Copy> {
 }
 
 impl<A: Allocator + Copy> ReferencesAnswer<A> {
-    ghost use Rattle.git_msg.specs.Asked.{ls_refs};
+    ghost use Rattle.git_msg.specs.Asked.{ls_refs, ref_prefixes_in, peel_in, symrefs_in};
     ghost use Rattle.git_host.specs.HostLookups.{references_asked};
     ghost use Rattle.git_host.specs.ReferencesPlaces.{Ends, KeepsAs, Reports, ReportsUnborn, Starts, format_of, last_reported, peel_of, refuses_head, symrefs_of};
 
@@ -237,15 +237,15 @@ fn after_reference(place: ReferencesPlace) -> ReferencesPlace
 }
 
 fn shows<A: Allocator + Copy>(listing: &Listing<A>, entry: &RefEntry) -> bool
-    requires { IsOrdered listing.now.asked.ref_prefixes }
-    ensures { result ≡ is_shown listing.now.asked.ref_prefixes entry.now.name }
+    requires { IsOrdered (ref_prefixes_in listing.now.asked) }
+    ensures { result ≡ is_shown (ref_prefixes_in listing.now.asked) entry.now.name }
 {
     shows_name(listing, entry.name())
 }
 
 fn shows_name<A: Allocator + Copy>(listing: &Listing<A>, name: &[u8]) -> bool
-    requires { IsOrdered listing.now.asked.ref_prefixes }
-    ensures { result ≡ is_shown listing.now.asked.ref_prefixes name.now }
+    requires { IsOrdered (ref_prefixes_in listing.now.asked) }
+    ensures { result ≡ is_shown (ref_prefixes_in listing.now.asked) name.now }
 {
     listing.shows_at(listing.split(name), name)
 }
@@ -263,7 +263,7 @@ fn put_unborn(hold: &mut Hold, target: &[u8])
 #[tactic(auto, using(crate::proofs::FetchMoves::line_held))]
 fn put_entry<A: Allocator + Copy>(hold: &mut Hold, entry: &RefEntry, listing: &Listing<A>)
     requires { HasOneFormat entry.now }
-    ensures { Holds hold.new.items (reference_packet listing.now.asked.symrefs listing.now.asked.peel entry.now) }
+    ensures { Holds hold.new.items (reference_packet (symrefs_in listing.now.asked) (peel_in listing.now.asked) entry.now) }
 {
     put_reference(hold, entry_line(entry, listing));
 }

@@ -13,12 +13,15 @@ use Rattle.git_msg.specs.declared.arguments.Command.TheVariants.{LsRefs, Fetch, 
 use Rattle.git_msg.specs.declared.offers.Caps.{Caps}
 use Rattle.git_msg.specs.declared.requests.Request.{Request}
 use Rattle.git_msg.specs.Advertisement.{everything, noted_of, takes_command}
-use Rattle.git_msg.specs.Arguments.{Arg, IsNameIn, IsValue, MayFollow, Value, Word, have, id_value, is_offered, object_id, of_flag, row}
+use Rattle.git_msg.specs.Arguments.{Arg, IsInRange, IsNameIn, IsValue, with_id, is_offered, row, word_of}
 use Rattle.git_msg.specs.declared.flags.Flag.{Flag}
-use Rattle.git_msg.specs.Asked.{Asked, HasValues, arguments_in, fetch, haves_of, id_in, ls_refs, object_info, oids_of}
+use Rattle.git_msg.specs.declared.words.Word.{Word}
+use Rattle.git_msg.specs.declared.words.Word.TheVariants.{Flag as of_flag, Object as of_object, Text as of_text}
+use Rattle.git_msg.specs.declared.words.TextWord.{TextWord}
+use Rattle.git_msg.specs.declared.words.ObjectWord.{ObjectWord}
+use Rattle.git_msg.specs.Asked.{Asked, HasValues, arguments_in, fetch, id_in, ls_refs, object_info}
 use Rattle.git_msg.specs.Machine.HeldRequest.{asked_of, format_of}
 use Rattle.git_msg.specs.Lines.{IsFormatMeant}
-use Rattle.git_msg.proofs.ArgumentsInOrder.{arguments_in_order}
 use Rattle.git_msg.proofs.FoundParts.{All-filter_map}
 use Rattle.git_msg.proofs.RoundTrip.{meant_when_stated}
 use Rattle.git_msg.proofs.WholeRequests.{lines_have_no_flush}
@@ -45,17 +48,13 @@ use Rattle.git_laws.proofs.SpelledPackets.{are_spelled, fit_both, fit_front, fro
 
 -- ---- the object names of a request that an answer repeats
 
-have_named : (format : Format) (word : Word) (value : Value) → MayFollow (row word).shape format value
-    → IfSome (id_in have (record { word = word; value = value })) (IsNameIn format)
-have_named format have (id_value name) fits = fits
-have_named format (of_flag Flag.Size) value fits = tt
-have_named format word value fits = tt
+have_named : (format : Format) (arg : Arg) → IsInRange format arg → IfSome (id_in ObjectWord.Have arg) (IsNameIn format)
+have_named format (with_id ObjectWord.Have name) fits = fits
+have_named format arg fits = tt
 
-object_named : (format : Format) (word : Word) (value : Value) → MayFollow (row word).shape format value
-    → IfSome (id_in object_id (record { word = word; value = value })) (IsNameIn format)
-object_named format object_id (id_value name) fits = fits
-object_named format (of_flag Flag.Size) value fits = tt
-object_named format word value fits = tt
+object_named : (format : Format) (arg : Arg) → IsInRange format arg → IfSome (id_in ObjectWord.ObjectId arg) (IsNameIn format)
+object_named format (with_id ObjectWord.ObjectId name) fits = fits
+object_named format arg fits = tt
 
 -- the arguments that are object names have the format
 names_in : (format : Format) (command : Command) (named : Arg → Option ObjectName)
@@ -67,11 +66,9 @@ names_in format command named is args values =
 pub asks_in : (format : Format) (q : Asked) → HasValues format q → AsksIn format q
 asks_in format (ls_refs q) values = tt
 asks_in format (fetch q) values =
-    subst (All (IsNameIn format)) (ap haves_of (arguments_in_order (fetch q)))
-    (names_in format Fetch (id_in have) (λ arg value. have_named format arg.word arg.value value.1) (arguments_in (fetch q)) values)
+    names_in format Fetch (id_in ObjectWord.Have) (λ arg value. have_named format arg value.1) q values.allowed
 asks_in format (object_info q) values =
-    subst (All (IsNameIn format)) (ap oids_of (arguments_in_order (object_info q)))
-    (names_in format ObjectInfo (id_in object_id) (λ arg value. object_named format arg.word arg.value value.1) (arguments_in (object_info q)) values)
+    names_in format ObjectInfo (id_in ObjectWord.ObjectId) (λ arg value. object_named format arg value.1) q values.allowed
 
 -- ---- what a server that advertises everything reads
 
@@ -82,10 +79,12 @@ takes_all format ObjectInfo = refl
 
 offers_word : (format : Format) (word : Word) → (row word).offered (everything format) ≡ true
 offers_word format (of_flag Flag.Size) = refl
+offers_word format (of_object ObjectWord.Want) = refl
+offers_word format (of_text TextWord.Filter) = refl
 offers_word format word = refl
 
 pub offers_all : (format : Format) (arg : Arg) → is_offered (everything format) arg ≡ true
-offers_all format arg = offers_word format arg.word
+offers_all format arg = offers_word format (word_of arg)
 
 -- of the written requests, the server has read and answered exactly these
 pub stream_asks : (format : Format) (ending : Ending) (limit : ℕ) (state : RepoState) (advertise writes_agent writes_format : Bool) (asked : List Asked)

@@ -22,7 +22,8 @@ use Rattle.git_pkt.proofs.Texts.{text_of-line_end}
 use Rattle.git_msg.specs.declared.Boundary.{Boundary}
 use Rattle.git_msg.specs.declared.Boundary.TheVariants.{Shallow, Unshallow}
 use Rattle.git_msg.specs.Arguments.{IsNameIn}
-use Rattle.git_msg.specs.Asked.{Asked, FetchAsked, LsRefsAsked, ObjectInfoAsked, fetch, is_empty, ls_refs, object_info, wait_for_done_of}
+use Rattle.git_msg.specs.Asked.{Asked, fetch, is_empty, ls_refs, object_info, done_in, flag_among, haves_in, oids_in, peel_in}
+use Rattle.git_msg.specs.Asked.{ref_prefixes_in, symrefs_in, want_refs_in}
 use Rattle.git_msg.specs.declared.response_lines.Info.{Info}
 use Rattle.git_msg.specs.References.{IsWritable, reference_of, reference_text}
 use Rattle.git_msg.specs.ResponseLines.{IsSize, Wanted, ack_text, boundary_text, info_text, object_of, wanted_of, wanted_text}
@@ -57,6 +58,8 @@ use Rattle.git_laws.specs.AnnouncedAnswers.{announced_boundary, announced_by, an
 use Rattle.git_laws.specs.AnnouncedAnswers.{announced_ready, announced_refs, announced_sizes, announced_unborn}
 use Rattle.git_laws.proofs.Receiving.{AnswerGives, bands_give, caps_at, end_gives, given_give, given_whole, header_gives}
 use Rattle.git_laws.proofs.Receiving.{lines_give, no_error, of_text, packet_gives}
+use Rattle.git_msg.specs.Arguments.{Arg}
+use Rattle.git_msg.specs.declared.flags.Flag.{Flag}
 
 -- ---- lines that are no error packets
 
@@ -231,18 +234,19 @@ module _ (t : Terms) (asked : List Asked) (repo : Repository) (sound : IsSound r
   -- ---- the shallow boundary
 
   -- the event of each line
-  boundary_lines : (q : FetchAsked) → All (λ line. GivesLine shallow_place t.format (boundary_text line) (announced_boundary line ∷ [])) (repo.boundaries q)
+  boundary_lines : (q : List Arg) → All (λ line. GivesLine shallow_place t.format (boundary_text line) (announced_boundary line ∷ [])) (repo.boundaries q)
   boundary_lines q k d within = boundary_line t.format _ (sound.boundaries_of_format q k d within ∙ same) (written.boundaries q k d within)
 
   -- what follows the lines of the boundary
-  abbrev LaterGives : FetchAsked → List Pkt → Type 0
+  abbrev LaterGives : List Arg → List Pkt → Type 0
   LaterGives q others =
       (allowed : Allowed) (before : List Pkt) → allowed.wanted_refs ≡ true → IsExpected t asked before (Header allowed)
-      → AnswerGives t asked before (others ++ end_packets t.ending) (map wanted_ref (found_refs repo q.want_refs) ++ (map pack (repo.pack q) ++ ended ∷ []))
+      → AnswerGives t asked before (others ++ end_packets t.ending)
+      (map wanted_ref (found_refs repo (want_refs_in q)) ++ (map pack (repo.pack q) ++ ended ∷ []))
 
-  later_gives : (q : FetchAsked) (packets : List Pkt) → EndsWithRefs whole repo q packets → LaterGives q packets
+  later_gives : (q : List Arg) (packets : List Pkt) → EndsWithRefs whole repo q packets → LaterGives q packets
   later_gives q packets h allowed before may is =
-      rw h.packets_are (refs_give q.want_refs (repo.pack q) allowed before h.others may h.holds is)
+      rw h.packets_are (refs_give (want_refs_in q) (repo.pack q) allowed before h.others may h.holds is)
 
   -- the section of the shallow boundary, which is sent only if the boundary has commits, and then the others
   boundary_gives : (lines : List Boundary) (allowed : Allowed) (before others : List Pkt) (later : List EventValue)
@@ -265,11 +269,11 @@ module _ (t : Terms) (asked : List Asked) (repo : Repository) (sound : IsSound r
       (λ is. then left (delim ∷ behind) may_refs is))))
 
   -- the rest of the answer, from the section of the shallow boundary on
-  rest_gives : (q : FetchAsked) (allowed : Allowed) (before packets : List Pkt) → EndsWithBoundary whole repo q packets → allowed.shallow_info ≡ true
+  rest_gives : (q : List Arg) (allowed : Allowed) (before packets : List Pkt) → EndsWithBoundary whole repo q packets → allowed.shallow_info ≡ true
       → allowed.wanted_refs ≡ true → IsExpected t asked before (Header allowed)
       → AnswerGives t asked before (packets ++ end_packets t.ending) (announced_pack repo q ++ ended ∷ [])
   rest_gives q allowed before packets h may may_refs is =
-      let later = map wanted_ref (found_refs repo q.want_refs) ++ (map pack (repo.pack q) ++ ended ∷ []) in
+      let later = map wanted_ref (found_refs repo (want_refs_in q)) ++ (map pack (repo.pack q) ++ ended ∷ []) in
       let events : announced_pack repo q ++ ended ∷ [] ≡ map announced_boundary (repo.boundaries q) ++ later = simp append_assoc in
       rw (h.packets_are, events)
       (boundary_gives (repo.boundaries q) allowed before h.others later (boundary_lines q) may may_refs is (later_gives q h.others h.holds))
@@ -322,12 +326,12 @@ module _ (t : Terms) (asked : List Asked) (repo : Repository) (sound : IsSound r
   -- ---- a fetch
 
   -- the acknowledgments, and then the pack if the repository is ready, or else nothing
-  negotiated_gives : (is_ready : Bool) (q : FetchAsked) (allowed : Allowed) (before packets : List Pkt) → allowed.acknowledgments ≡ true
-      → IsExpected t asked before (Header allowed) → All (IsNameIn t.format) q.haves → IsNegotiated is_ready (acknowledgments repo q) whole repo q packets
+  negotiated_gives : (is_ready : Bool) (q : List Arg) (allowed : Allowed) (before packets : List Pkt) → allowed.acknowledgments ≡ true
+      → IsExpected t asked before (Header allowed) → All (IsNameIn t.format) (haves_in q) → IsNegotiated is_ready (acknowledgments repo q) whole repo q packets
       → AnswerGives t asked before (packets ++ end_packets t.ending)
-      ((announced_common (common repo.has q.haves) ++ announced_ready is_ready repo q) ++ ended ∷ [])
+      ((announced_common (common repo.has (haves_in q)) ++ announced_ready is_ready repo q) ++ ended ∷ [])
   negotiated_gives true q allowed before packets may is haves answer =
-      let ids = common repo.has q.haves in
+      let ids = common repo.has (haves_in q) in
       let behind = ready_lines ++ (answer.others ++ end_packets t.ending) in
       let later = announced_pack repo q ++ ended ∷ [] in
       let parts : packets ++ end_packets t.ending ≡ text_line (codes "acknowledgments") ∷ (nak_or_acks ids ++ behind) =
@@ -337,23 +341,23 @@ module _ (t : Terms) (asked : List Asked) (repo : Repository) (sound : IsSound r
       (header_gives t asked (codes "acknowledgments") allowed (Acknowledgments (announced_acks false)) before (nak_or_acks ids ++ behind)
       (announced_common ids ++ (ready ∷ later)) is (no_error (codes "acknowledgments") (λ e. omega arith)) may refl
       (λ is. common_gives ids (text_line (codes "acknowledgments") ∷ before) behind (ready ∷ later)
-      (All-filter repo.has (IsNameIn t.format) q.haves haves) is
+      (All-filter repo.has (IsNameIn t.format) (haves_in q) haves) is
       (λ announced front not_yet is. ready_gives announced front (answer.others ++ end_packets t.ending) later not_yet is
       (λ front is. rest_gives q after_acknowledgments front answer.others answer.holds refl refl is))))
   negotiated_gives false q allowed before packets may is haves answer =
-      let ids = common repo.has q.haves in
+      let ids = common repo.has (haves_in q) in
       let last = flush ∷ end_packets t.ending in
       let parts : packets ++ end_packets t.ending ≡ text_line (codes "acknowledgments") ∷ (nak_or_acks ids ++ last) =
       rw answer (append_assoc (acknowledgments repo q) (flush ∷ []) (end_packets t.ending)) in
       rw (parts, append_assoc (announced_common ids) [] (ended ∷ []))
       (header_gives t asked (codes "acknowledgments") allowed (Acknowledgments (announced_acks false)) before (nak_or_acks ids ++ last)
       (announced_common ids ++ (ended ∷ [])) is (no_error (codes "acknowledgments") (λ e. omega arith)) may refl
-      (λ is. common_gives ids (text_line (codes "acknowledgments") ∷ before) last (ended ∷ []) (All-filter repo.has (IsNameIn t.format) q.haves haves) is
+      (λ is. common_gives ids (text_line (codes "acknowledgments") ∷ before) last (ended ∷ []) (All-filter repo.has (IsNameIn t.format) (haves_in q) haves) is
       (λ announced front not_yet is. end_gives t.format t.ending asked front (Acknowledgments announced) not_yet is)))
 
   -- the answer to a fetch that negotiates or not
-  fetch_gives : (negotiates : Bool) (q : FetchAsked) (allowed : Allowed) (before packets : List Pkt) → (negotiates ≡ true → allowed.acknowledgments ≡ true)
-      → allowed.shallow_info ≡ true → allowed.wanted_refs ≡ true → IsExpected t asked before (Header allowed) → All (IsNameIn t.format) q.haves
+  fetch_gives : (negotiates : Bool) (q : List Arg) (allowed : Allowed) (before packets : List Pkt) → (negotiates ≡ true → allowed.acknowledgments ≡ true)
+      → allowed.shallow_info ≡ true → allowed.wanted_refs ≡ true → IsExpected t asked before (Header allowed) → All (IsNameIn t.format) (haves_in q)
       → IsFetchAnswerBy negotiates whole repo q packets
       → AnswerGives t asked before (packets ++ end_packets t.ending) (announced_fetch negotiates repo q ++ ended ∷ [])
   fetch_gives true q allowed before packets may may_boundary may_refs is haves answer =
@@ -364,7 +368,7 @@ module _ (t : Terms) (asked : List Asked) (repo : Repository) (sound : IsSound r
   -- ---- references
 
   -- an unborn `HEAD`, if there is one and the request asks for it, and then the others
-  unborn_gives : (q : LsRefsAsked) (head : Option (List ℕ)) (before ps : List Pkt) (later : List EventValue) → ForSome head (IsUnbornHead repo.refs)
+  unborn_gives : (q : List Arg) (head : Option (List ℕ)) (before ps : List Pkt) (later : List EventValue) → ForSome head (IsUnbornHead repo.refs)
       → IsExpected t asked before References → ((behind : List Pkt) → IsExpected t asked behind References → AnswerGives t asked behind ps later)
       → AnswerGives t asked before (unborn_packets q head ++ ps) (announced_unborn q head ++ later)
   unborn_gives q None before ps later sound is others = others before is
@@ -380,37 +384,39 @@ module _ (t : Terms) (asked : List Asked) (repo : Repository) (sound : IsSound r
         (λ caps. All-cons line_gives target [] (unborn_line t.format target (sound target refl).named) (All-nil line_gives)) others
 
   -- the answer to ls-refs
-  listing_gives : (q : LsRefsAsked) (before packets : List Pkt) → IsExpected t asked before References → packets ≡ ls_refs_answer q repo
+  listing_gives : (q : List Arg) (before packets : List Pkt) → IsExpected t asked before References → packets ≡ ls_refs_answer q repo
       → AnswerGives t asked before (packets ++ end_packets t.ending) (announced_refs repo q ++ ended ∷ [])
   listing_gives q before packets is answer =
-      let line = λ (entry : Entry). reference_text (shown_line q.symrefs q.peel entry) in
-      let event = λ (entry : Entry). reference (shown_line q.symrefs q.peel entry) in
-      let shown = shown_refs q.ref_prefixes repo.refs in
-      let lines = map (reference_packet q.symrefs q.peel) shown in
+      let line = λ (entry : Entry). reference_text (shown_line (symrefs_in q) (peel_in q) entry) in
+      let event = λ (entry : Entry). reference (shown_line (symrefs_in q) (peel_in q) entry) in
+      let shown = shown_refs (ref_prefixes_in q) repo.refs in
+      let lines = map (reference_packet (symrefs_in q) (peel_in q)) shown in
       let last = end_packets t.ending in
       let head = unborn_packets q repo.unborn_head in
       let all : All (λ entry. GivesLine references t.format (line entry) (event entry ∷ [])) repo.refs =
-      λ k d within. reference_line t.format q.symrefs q.peel _ (sound.named k d within) (rw same at (sound.of_format k d within)) (written.refs k d within) in
+      λ k d within. reference_line t.format (symrefs_in q) (peel_in q) _ (sound.named k d within)
+      (rw same at (sound.of_format k d within)) (written.refs k d within) in
       let parts : packets ++ last ≡ head ++ (lines ++ (flush ∷ last)) = rw answer (simp append_assoc) in
       rw (parts, append_assoc (announced_unborn q repo.unborn_head) (map event shown) (ended ∷ []))
       (unborn_gives q repo.unborn_head before (lines ++ (flush ∷ last)) (map event shown ++ ended ∷ []) sound.unborn is
       (λ behind is. lines_give t asked line event References tt shown behind (flush ∷ last) (ended ∷ []) is
-      (λ caps. All-filter (λ entry. is_shown q.ref_prefixes entry.name) (λ entry. GivesLine references t.format (line entry) (event entry ∷ [])) repo.refs all)
+      (λ caps. All-filter (λ entry. is_shown (ref_prefixes_in q) entry.name)
+      (λ entry. GivesLine references t.format (line entry) (event entry ∷ [])) repo.refs all)
       (λ after is. end_gives t.format t.ending asked after References tt is)))
 
   -- ---- sizes
 
   -- the answer to object-info
-  sizes_give : (q : ObjectInfoAsked) (before packets : List Pkt) → IsExpected t asked before SizeLine → All (IsNameIn t.format) q.oids
+  sizes_give : (q : List Arg) (before packets : List Pkt) → IsExpected t asked before SizeLine → All (IsNameIn t.format) (oids_in q)
       → packets ≡ object_info_answer q repo → AnswerGives t asked before (packets ++ end_packets t.ending) (announced_sizes repo q ++ ended ∷ [])
   sizes_give q before packets is oids answer =
       let announced : ObjectName → Info = λ id. record { id = id; size = repo.object_size id } in
       let last = flush ∷ end_packets t.ending in
-      let parts : packets ++ end_packets t.ending ≡ text_line (codes "size") ∷ (map (info_packet repo) q.oids ++ last) = rw answer (simp append_assoc) in
-      rw parts (packet_gives t asked before SizeLine (text_line (codes "size")) [] (map (info_packet repo) q.oids ++ last)
+      let parts : packets ++ end_packets t.ending ≡ text_line (codes "size") ∷ (map (info_packet repo) (oids_in q) ++ last) = rw answer (simp append_assoc) in
+      rw parts (packet_gives t asked before SizeLine (text_line (codes "size")) [] (map (info_packet repo) (oids_in q) ++ last)
       (announced_sizes repo q ++ ended ∷ []) is
       (record { no_error = no_error (codes "size") (λ e. omega arith); conveys = refl }) refl
-      (λ is. lines_give t asked (λ id. info_text (announced id)) (λ id. info (announced id)) Sizes tt q.oids (text_line (codes "size") ∷ before) last
+      (λ is. lines_give t asked (λ id. info_text (announced id)) (λ id. info (announced id)) Sizes tt (oids_in q) (text_line (codes "size") ∷ before) last
       (ended ∷ []) is
       (λ caps k d within. size_line_is t.format _ _ (oids k d within) (written.sizes _))
       (λ behind is. end_gives t.format t.ending asked behind Sizes tt is)))
@@ -422,8 +428,8 @@ module _ (t : Terms) (asked : List Asked) (repo : Repository) (sound : IsSound r
       → AnswerGives t asked before (packets ++ end_packets t.ending) (announced_by repo q ++ ended ∷ [])
   answer_gives (ls_refs q) before packets is asks answer = listing_gives q before packets is answer
   answer_gives (fetch q) before packets is asks answer =
-      let ends = not_done (not (is_empty q.haves) || wait_for_done_of (fetch q)) q.done in
-      fetch_gives (negotiates q) q (allowed_after q.done []) before packets ends refl refl is asks answer
+      let ends = not_done (not (is_empty (haves_in q)) || flag_among q Flag.WaitForDone) (done_in q) in
+      fetch_gives (negotiates q) q (allowed_after (done_in q) []) before packets ends refl refl is asks answer
   answer_gives (object_info q) before packets is asks answer = sizes_give q before packets is asks answer
 
 -- an answer gives its events after any requests, and the next one may come after it

@@ -113,7 +113,7 @@ request_fits : (writes_agent writes_format : Bool) (format written : Format) (q 
     → AllFit (lines_written writes_agent writes_format format q)
 request_fits writes_agent writes_format format written q values =
     command_fits (command_asked q) _ (agent_fits writes_agent _ (format_fits format writes_format _
-    (omega arith, arguments_fit (command_asked q) written (arguments_in q) values)))
+    (omega arith, arguments_fit (command_asked q) written (arguments_in q) values.allowed)))
 
 pub requests_fit : (writes_agent writes_format : Bool) (format : Format) (asked : List Asked) → HaveValues asked
     → AllFit (written_all writes_agent writes_format format asked)

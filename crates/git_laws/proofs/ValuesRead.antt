@@ -10,15 +10,15 @@ use Rattle.git_pkt.specs.Splits.{Given}
 use Rattle.git_pkt.proofs.Texts.{text_of-line_end}
 use Rattle.git_msg.specs.declared.arguments.Command.{Command}
 use Rattle.git_msg.specs.declared.offers.Offer.{Offer}
-use Rattle.git_msg.specs.Arguments.{Arg, IsInRange, IsNameIn, IsValue, MayFollow, HasArgumentOf, HasValueOf, Shape, Value, id_value, object_name}
-use Rattle.git_msg.specs.Arguments.{row, written_text, written_value}
+use Rattle.git_msg.specs.Arguments.{Arg, HasArgument, IsInRange, IsNameIn, IsValue, with_id, word_of, written_text}
+use Rattle.git_msg.specs.declared.words.Word.TheVariants.{Object as of_object}
 use Rattle.git_msg.specs.Lines.{IsLineIn, Line, delimiter, has_delimiter, is_delimiter}
 use Rattle.git_msg.specs.Requests.{AreLines}
 use Rattle.git_msg.specs.WrittenRequest.{text_line}
 use Rattle.git_msg.proofs.LineLaws.{payload_argument}
 use Rattle.git_msg.proofs.LineLists.{delimiter_snoc}
 use Rattle.git_msg.proofs.RoundTrip.{written_conveys}
-use Rattle.git_msg.proofs.Rows.{headed, one_value, one_word}
+use Rattle.git_msg.proofs.HeadWords.{one_value, one_word}
 use Rattle.git_msg.proofs.WrittenNames.{length-hex_of}
 use Rattle.git_laws.specs.AnnouncedAnswers.{packets_of}
 
@@ -33,20 +33,21 @@ name_fits Sha256 Sha256 id h (other, is) = h
 name_fits Sha1 Sha256 id h (other, is) = absurd (omega (arith, length-hex_of Sha1 id h, is.count))
 name_fits Sha256 Sha1 id h (other, is) = absurd (omega (arith, length-hex_of Sha256 id h, is.count))
 
-value_stays : (shape : Shape) (word : List ℕ) (written read : Format) (value other : Value) → MayFollow shape written value
-    → HasValueOf shape word read (word ++ written_value value) other → MayFollow shape read value
-value_stays object_name word written read (id_value id) (id_value other) fits conveys =
-    let same : conveys.value ≡ hex_of id = one_value word (word ++ hex_of id) conveys.value (hex_of id) conveys.spelled refl in
-    name_fits written read id fits (other, rw same at conveys.holds)
-value_stays object_name word written read (id_value id) other fits conveys = absurd conveys
-value_stays shape word written read value other fits conveys = fits
-
 -- so an argument that is read is allowed in a request of that format
-in_range : (written read : Format) (arg other : Arg) → IsInRange written arg → HasArgumentOf read (written_text arg) other → IsInRange read arg
+stays : (written read : Format) (arg other : Arg) → word_of arg ≡ word_of other → IsInRange written arg → HasArgument read (written_text arg) other
+    → IsInRange read arg
+stays written read (with_id word id) (with_id of other) same fits conveys =
+    let words : word ≡ of = cc in
+    let value : conveys.value ≡ hex_of id =
+    one_value (of_object word) (written_text (with_id word id)) conveys.value (hex_of id) tt (rw words conveys.spelled) refl in
+    name_fits written read id fits (other, rw value at conveys.states)
+stays written read (with_id word id) other same fits conveys = absurd (cc)
+stays written read arg other same fits conveys = fits
+
+in_range : (written read : Format) (arg other : Arg) → IsInRange written arg → HasArgument read (written_text arg) other → IsInRange read arg
 in_range written read arg other value conveys =
-    let same = one_word (written_text arg) other.word arg.word (headed read (written_text arg) other conveys)
-    (headed written (written_text arg) arg (written_conveys written arg value)) in
-    value_stays (row arg.word).shape (row arg.word).keyword written read arg.value other.value value (rw same at conveys)
+    let own = written_conveys written arg value in
+    stays written read arg other (one_word (written_text arg) (word_of arg) (word_of other) own.value conveys.value own.spelled conveys.spelled) value conveys
 
 -- ---- the lines of a request
 
@@ -72,7 +73,7 @@ arguments_behind offer limit command format (arg ∷ args) before (g ∷ gs) (li
     let rest : packets_of gs ≡ argument_packets args = cc in
     let value = All-head (IsValue command format) arg args values in
     let read = payload_argument offer limit before bytes line (rw (first, behind) at is) in
-    let conveys : HasArgumentOf offer.format (written_text arg) read.0 = rw (text_of-line_end (written_text arg)) at read.2.reads.is_argument.1 in
+    let conveys : HasArgument offer.format (written_text arg) read.0 = rw (text_of-line_end (written_text arg)) at read.2.reads.is_argument.1 in
     All-cons (IsValue command offer.format) arg args (value.0, in_range format offer.format arg read.0 value.1 conveys)
     (arguments_behind offer limit command format args (before ++ line ∷ []) gs lines
     (delimiter_snoc before line ∙ or_right (is_delimiter line) (has_delimiter before) behind) taken rest

@@ -12,7 +12,7 @@ use Rattle.git_msg.specs.declared.offers.Offer.{Offer}
 use Rattle.git_msg.specs.declared.Boundary.{Boundary}
 use Rattle.git_msg.specs.declared.Boundary.TheVariants.{Shallow, Unshallow}
 use Rattle.git_msg.specs.Arguments.{IsNameIn}
-use Rattle.git_msg.specs.Asked.{Asked, FetchAsked, LsRefsAsked, ObjectInfoAsked, ls_refs, fetch, object_info}
+use Rattle.git_msg.specs.Asked.{Asked, ls_refs, fetch, object_info, haves_in, oids_in, ref_prefixes_in, want_refs_in, peel_in, symrefs_in}
 use Rattle.git_msg.specs.Features.{features_value, fetch_features, ls_refs_features}
 use Rattle.git_msg.specs.References.{reference_of}
 use Rattle.git_msg.specs.ResponseLines.{IsSize, Wanted, object_of, wanted_of}
@@ -22,16 +22,17 @@ use Rattle.git_client.specs.declared.events.Ending.TheVariants.{FlushOnly, Respo
 use Rattle.git_server.specs.Answers.{asks_for_unborn, shown_line, shown_refs}
 use Rattle.git_server.specs.FetchAnswers.{common, is_ready_for, negotiates}
 use Rattle.git_server.specs.Repository.{Entry, Repository, found_ref}
+use Rattle.git_msg.specs.Arguments.{Arg}
 
 -- `HEAD` if it is unborn, with the name that it points to, if the request asks for it
-abbrev pub announced_unborn : LsRefsAsked → Option (List ℕ) → List EventValue
+abbrev pub announced_unborn : List Arg → Option (List ℕ) → List EventValue
 announced_unborn q None = []
 announced_unborn q (Some target) = if asks_for_unborn q then reference (reference_of None (codes "HEAD") (Some target) None) ∷ [] else []
 
 -- and then the references that are shown
-abbrev pub announced_refs : Repository → LsRefsAsked → List EventValue
+abbrev pub announced_refs : Repository → List Arg → List EventValue
 announced_refs repo q =
-    announced_unborn q repo.unborn_head ++ map (λ entry. reference (shown_line q.symrefs q.peel entry)) (shown_refs q.ref_prefixes repo.refs)
+    announced_unborn q repo.unborn_head ++ map (λ entry. reference (shown_line (symrefs_in q) (peel_in q) entry)) (shown_refs (ref_prefixes_in q) repo.refs)
 
 -- the objects that both sides have, or that there is none
 abbrev pub announced_common : List ObjectName → List EventValue
@@ -48,22 +49,22 @@ abbrev pub found_refs : Repository → List (List ℕ) → List Wanted
 found_refs repo names = filter_map (λ name. option_map (λ id. wanted_of id name) (found_ref repo.refs name)) names
 
 -- the boundary, the wanted references and each byte of the pack
-abbrev pub announced_pack : Repository → FetchAsked → List EventValue
-announced_pack repo q = map announced_boundary (repo.boundaries q) ++ map wanted_ref (found_refs repo q.want_refs) ++ map pack (repo.pack q)
+abbrev pub announced_pack : Repository → List Arg → List EventValue
+announced_pack repo q = map announced_boundary (repo.boundaries q) ++ map wanted_ref (found_refs repo (want_refs_in q)) ++ map pack (repo.pack q)
 
 -- the events after the objects that both sides have: the pack, or nothing
-abbrev pub announced_ready : Bool → Repository → FetchAsked → List EventValue
+abbrev pub announced_ready : Bool → Repository → List Arg → List EventValue
 announced_ready true repo q = ready ∷ announced_pack repo q
 announced_ready false repo q = []
 
 -- the answer to a fetch that negotiates or not
-abbrev pub announced_fetch : Bool → Repository → FetchAsked → List EventValue
-announced_fetch true repo q = announced_common (common repo.has q.haves) ++ announced_ready (is_ready_for repo q) repo q
+abbrev pub announced_fetch : Bool → Repository → List Arg → List EventValue
+announced_fetch true repo q = announced_common (common repo.has (haves_in q)) ++ announced_ready (is_ready_for repo q) repo q
 announced_fetch false repo q = announced_pack repo q
 
 -- the sizes of the objects that were asked about
-abbrev pub announced_sizes : Repository → ObjectInfoAsked → List EventValue
-announced_sizes repo q = map (λ id. info (record { id = id; size = repo.object_size id })) q.oids
+abbrev pub announced_sizes : Repository → List Arg → List EventValue
+announced_sizes repo q = map (λ id. info (record { id = id; size = repo.object_size id })) (oids_in q)
 
 -- the events of an answer, without its end
 abbrev pub announced_by : Repository → Asked → List EventValue
@@ -74,8 +75,8 @@ announced_by repo (object_info q) = announced_sizes repo q
 -- the object names of a request that an answer repeats are names of the format
 abbrev pub AsksIn : Format → Asked → Type 0
 AsksIn format (ls_refs q) = Unit {0}
-AsksIn format (fetch q) = All (IsNameIn format) q.haves
-AsksIn format (object_info q) = All (IsNameIn format) q.oids
+AsksIn format (fetch q) = All (IsNameIn format) (haves_in q)
+AsksIn format (object_info q) = All (IsNameIn format) (oids_in q)
 
 -- the object names of a reference are values that object names have
 pub record IsEntryOfNames (entry : Entry) : Type 0 where
@@ -85,7 +86,7 @@ pub record IsEntryOfNames (entry : Entry) : Type 0 where
 -- the repository's answers can be written: object names have 32 bytes, and sizes 64 bits
 pub record CanBeWritten (repo : Repository) : Type 0 where
   pub refs : All IsEntryOfNames repo.refs
-  pub boundaries : (q : FetchAsked) → All (λ line. IsOid (object_of line)) (repo.boundaries q)
+  pub boundaries : (q : List Arg) → All (λ line. IsOid (object_of line)) (repo.boundaries q)
   pub sizes : (id : ObjectName) (size : ℕ) → repo.object_size id ≡ Some size → IsSize size
 
 -- the packets after an answer's flush

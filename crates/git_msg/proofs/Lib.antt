@@ -1,8 +1,9 @@
 pub mod Keys
+pub mod HeadWords
 pub mod Noted
 pub mod Places
 pub mod LineLists
-pub mod KeptArguments
+pub mod FurtherArguments
 pub mod TakenPackets
 pub mod BoundedRequests
 pub mod StepFacts
@@ -18,9 +19,11 @@ pub mod ReferenceLaws
 pub mod LinesLeft
 pub mod RoundTrip
 pub mod FaultLaws
-pub mod HeldFlags
+pub mod HeldArguments
+pub mod WrittenArguments
 pub mod KeptBytes
 pub mod RefusedLists
+mod PlacedLists
 pub mod ReaderRuns
 pub mod AddedArguments
 pub mod ArgumentsInOrder

@@ -15,7 +15,8 @@ use Rattle.git_msg.specs.declared.capability_key.Key.TheVariants.{CommandKey, Ag
 use Rattle.git_msg.specs.Texts.{IsErrorText}
 use Rattle.git_msg.specs.Advertisement.{takes_command}
 use Rattle.git_msg.specs.Arguments.{Arg, ReadsAs, name_of}
-use Rattle.git_msg.specs.Asked.{Asked, ls_refs, fetch, object_info}
+use Rattle.git_msg.specs.declared.flags.Flag.{Flag}
+use Rattle.git_msg.specs.Asked.{Asked, ls_refs, fetch, object_info, flag_among}
 use Rattle.git_msg.specs.Checks.{Refuses, Passes}
 use Rattle.git_msg.specs.Lines.{Line, command, agent, server_option, object_format, delimiter, argument, argument_in, is_none, commands_of, kept_in}
 use Rattle.git_msg.specs.Lines.{has_delimiter, HasKey, NamesTaken, key_checks, by_key, capability_checks}
@@ -91,7 +92,8 @@ fair_end_checks : (asked : Asked) → AllFair (end_checks asked)
 unfolding AllFair
 fair_end_checks (ls_refs q) = tt
 fair_end_checks (fetch q) = search (rules, fair_check, true_false)
-fair_end_checks (object_info q) = (fair_check (q.size ≡ true) (q.size ≡ false) NoSize (λ p r. true_false q.size p r), tt)
+fair_end_checks (object_info q) =
+    (fair_check (flag_among q Flag.Size ≡ true) (flag_among q Flag.Size ≡ false) NoSize (λ p r. true_false (flag_among q Flag.Size) p r), tt)
 
 fair_at_end : (lines : List Line) → IsFair (at_end lines)
 fair_at_end lines = search (rules, same_command, passes_or_refuses, fair_end_checks, one_name)
@@ -195,7 +197,9 @@ payload_argument offer limit before bytes line h = absurd h
 -- a text is one argument
 pub one_argument_text : (offer : Offer) (before : List Line) (text : List ℕ) (a b : Arg)
     → IsArgumentText offer before text a → IsArgumentText offer before text b → a ≡ b
-one_argument_text offer before text a b h k = search (rules, same_command, one_argument)
+one_argument_text offer before text a b h k =
+    let same = same_command (commands_of before) h.of k.of h.asked k.asked in
+    one_argument h.of offer.format text a b h.reads.is_argument (rw (← same) at k.reads.is_argument)
 
 -- the text of an argument is refused only for the limit
 pub refused_for_limit : (offer : Offer) (limit : ℕ) (before : List Line) (text : List ℕ) (arg : Arg) (kind : Kind)

@@ -1,6 +1,5 @@
 -- The errors with which no packet of a request is refused.
 use Rattle.std.proofs.Common.{◌≡◌, ◌≢◌, ℕ, ◌∙◌, Bool, true, false, Option, List, [], ◌∷◌, subst, sym, inl, inr, rules}
-use Rattle.git_names.specs.declared.object_format.Format.{Format}
 use Rattle.git_pkt.specs.Packets.{Pkt, flush, delim, resp_end, payload}
 use Rattle.git_pkt.specs.Splits.{Given}
 use Rattle.git_pkt.specs.declared.fault.Fault.{Fault}
@@ -10,7 +9,10 @@ use Rattle.git_msg.specs.declared.offers.Offer.{Offer}
 use Rattle.git_msg.specs.declared.arguments.Command.{Command}
 use Rattle.git_msg.specs.declared.capability_key.Key.{Key}
 use Rattle.git_msg.specs.declared.capability_key.Key.TheVariants.{CommandKey, AgentKey}
-use Rattle.git_msg.specs.Arguments.{Word, Shape, flag_word, row, refusal_of, IsArgumentFault, IsRowFault}
+use Rattle.git_msg.specs.declared.words.Word.TheVariants.{Flag as of_flag, Text as of_text}
+use Rattle.git_msg.specs.declared.words.TextWord.{TextWord}
+use Rattle.git_msg.specs.Arguments.{refusal_of, IsArgumentFault}
+use Rattle.git_msg.specs.declared.words.Word.{Word}
 use Rattle.git_msg.specs.Asked.{Asked, ls_refs, fetch, object_info}
 use Rattle.git_msg.specs.Checks.{Check, Refuses}
 use Rattle.git_msg.specs.Lines.{Line, argument_checks, capability_checks, commands_of, end_checks, flush_checks_in, has_format}
@@ -39,9 +41,10 @@ not_by_itself OutOfMemory strange = tt
 not_by_itself kind strange = strange
 
 -- a refused value has an error of packets
-by_itself : (shape : Shape) → NotByItself (refusal_of shape) → ⊥
-by_itself flag_word h = h
-by_itself shape h = h
+by_itself : (word : Word) → NotByItself (refusal_of word) → ⊥
+by_itself (of_flag flag) h = h
+by_itself (of_text TextWord.WantRef) h = h
+by_itself word h = h
 
 -- none of the checks refuses with this error
 AllQuiet : Kind → List Check → Type 0
@@ -69,13 +72,10 @@ module _ (kind : Kind) (strange : NotByItself kind) where
   unfolding AllQuiet
   quiet_part offer commands content = ((λ r. subst NotByItself r.1 strange), ((λ r. subst NotByItself r.1 strange), tt))
 
-  quiet_row : (c : Command) (format : Format) (word : Word) (text : List ℕ) → IsRowFault c format word text kind → ⊥
-  quiet_row c format word text fault = by_itself (row word).shape (subst NotByItself fault.named strange)
-
   quiet_value : (c : Command) (offer : Offer) (text : List ℕ) → IsArgumentFault c offer text kind → ⊥
-  quiet_value c offer text (inl fault) = subst NotByItself fault.1 strange
-  quiet_value c offer text (inr (inl fault)) = quiet_row c offer.format fault.0 text fault.1
-  quiet_value c offer text (inr (inr fault)) = subst NotByItself fault.1 strange
+  quiet_value c offer text (inl (inl fault)) = subst NotByItself fault.1 strange
+  quiet_value c offer text (inl (inr fault)) = by_itself fault.word (subst NotByItself fault.named strange)
+  quiet_value c offer text (inr fault) = subst NotByItself fault.1 strange
 
   quiet_text : (c : Command) (offer : Offer) (text : List ℕ) → AllQuiet kind (text_checks c offer text)
   unfolding AllQuiet
@@ -110,12 +110,6 @@ not_for_limit_by_end asked = otherwise TooMuchKept (end_checks asked) (quiet_end
 pub not_for_memory_by_capability : (offer : Offer) (first : Bool) (text : List ℕ) (kind : Kind)
     → Refuses (capability_checks offer first text) kind → kind ≢ OutOfMemory
 not_for_memory_by_capability offer first text = otherwise OutOfMemory (capability_checks offer first text) (quiet_capability OutOfMemory tt offer first text)
-
-pub not_for_memory_by_text : (c : Command) (offer : Offer) (text : List ℕ) (kind : Kind) → Refuses (text_checks c offer text) kind → kind ≢ OutOfMemory
-not_for_memory_by_text c offer text = otherwise OutOfMemory (text_checks c offer text) (quiet_text OutOfMemory tt c offer text)
-
-pub not_for_memory_by_end : (asked : Asked) (kind : Kind) → Refuses (end_checks asked) kind → kind ≢ OutOfMemory
-not_for_memory_by_end asked = otherwise OutOfMemory (end_checks asked) (quiet_end OutOfMemory tt asked)
 
 module _ (kind : Kind) (strange : NotOfPackets kind) where
   itself : NotByItself kind

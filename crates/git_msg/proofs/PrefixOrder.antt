@@ -1,6 +1,6 @@
 -- Sorted lists of texts, and the names that they show.
 use Rattle.std.proofs.Common.{◌≡◌, ℕ, zero, suc, ◌-◌, ◌==◌, ◌<◌, ◌≤◌, Bool, true, false, ◌||◌, if◌then◌else◌, inl, inr, List, [], ◌∷◌, All, length, rules}
-use Rattle.std.proofs.Common.{map, nat_eq, slice_index_or, refl, sym, ap, ◌∙◌, subst, arith}
+use Rattle.std.proofs.Common.{map, nat_eq, slice_index_or, refl, sym, ap, subst, arith}
 use Rattle.std.specs.List.{list_any, starts_with, AllPairs, dedup, dedup_from}
 use Rattle.std.specs.List.Sorted.{IsPermutation, IsSortedBy, IsPartitionedBy, IsPartitionPoint}
 use Rattle.std.specs.Ordering.{is_lt}
@@ -10,6 +10,8 @@ use Rattle.std.proofs.lemmas.List.{get_or-map, get_or_default, length-map}
 use Rattle.std.proofs.lemmas.List.Filters.{All-dedup}
 use Rattle.std.proofs.lemmas.List.Folds.{list_any_at, list_any_none}
 use Rattle.std.proofs.lemmas.Grind.{common_steps}
+use Rattle.std.proofs.lemmas.Option.{get_or_from_slice_get, slice_get-get_or}
+use Rattle.std.specs.Prelude.{None, Some, slice_get}
 use Rattle.std.proofs.lemmas.List.Kept.{AllPairs-cons}
 use Rattle.std.proofs.lemmas.List.Sorted.{IsPermutation-map, length_permutation, list_any-IsPermutation, ranks_by, sorted_far}
 use Rattle.git_msg.specs.Prefixes.{Precedes, Prunes, IsOrdered, ShowAlike, SplitsAt, goes_before, begins, is_empty, is_shown, text_cmp}
@@ -199,14 +201,17 @@ last_decides ps name i d ordered split = by_test (begins name (slice_index_or ps
     by_test true e = rw (not_empty_ps ps i inside) (sym (list_any_at (starts_with nat_eq name) ps i d inside e))
     by_test false e = rw (not_empty_ps ps i inside) (sym (list_any_none (starts_with nat_eq name) ps (only e)))
 
--- the same for texts that are found by their ends
-pub last_held : {X : Type 0} (f : X → List ℕ) (xs : List X) (name : List ℕ) (at : ℕ) (x : X) → 0 < at → x ≡ slice_index_or xs (at - 1) x
-    → IsOrdered (map f xs) → SplitsAt (map f xs) name at → begins name (f x) ≡ is_shown (map f xs) name
-last_held {X} f xs name at x some here ordered split =
+-- it is the one before that place
+pub last_found : (ps : List (List ℕ)) (name p : List ℕ) (at : ℕ) → 0 < at → Some p ≡ slice_get ps (at - 1) → IsOrdered ps → SplitsAt ps name at
+    → begins name p ≡ is_shown ps name
+last_found ps name p at some found ordered split =
     let next : at ≡ suc (at - 1) = omega (arith, some) in
-    let inside : at - 1 < length xs = omega (arith, some, split.bound, length-map xs f) in
-    let found : slice_index_or (map f xs) (at - 1) (f x) ≡ f x = get_or-map f xs (at - 1) x (f x) inside ∙ ap f (sym here) in
-    rw (← found) (last_decides (map f xs) name (at - 1) (f x) ordered (subst (SplitsAt (map f xs) name) next split))
+    rw (← get_or_from_slice_get ps (at - 1) p p (sym found)) (last_decides ps name (at - 1) p ordered (subst (SplitsAt ps name) next split))
+
+pub one_found : (ps : List (List ℕ)) (name : List ℕ) (at : ℕ) → 0 < at → None ≡ slice_get ps (at - 1) → SplitsAt ps name at → ⊥
+one_found ps name at some found split =
+    let there = slice_get-get_or ps (at - 1) [] (omega (arith, some, split.bound)) in
+    cc
 
 -- the texts are none if their number is 0
 pub none_counted : (ps : List (List ℕ)) → (length ps == 0) ≡ is_empty ps

@@ -1,20 +1,25 @@
 -- A request whose prefixes are sorted, and some of them dropped: its bytes are counted as before.
-use Rattle.std.proofs.Common.{◌≡◌, ℕ, ◌+◌, ◌≤◌, ◌<◌, Bool, true, false, if◌then◌else◌, List, ◌∷◌, ◌++◌, All, length, map, ap, sym, subst, arith, append_assoc}
+use Rattle.std.proofs.Common.{◌≡◌, ℕ, ◌+◌, ◌≤◌, ◌<◌, Bool, true, false, if◌then◌else◌, List, [], ◌∷◌, All, length, map, refl}
+use Rattle.std.proofs.Common.{ap, sym, subst, arith, rules}
 use Rattle.std.specs.List.{dedup, dedup_from, sum_by}
 use Rattle.std.specs.List.Sorted.{IsPermutation}
 use Rattle.std.proofs.lemmas.List.{get_or-map, length-map}
-use Rattle.std.proofs.lemmas.List.Elements.{All-append}
-use Rattle.std.proofs.lemmas.List.Sums.{sum_by-append, sum_by-cons}
+use Rattle.std.proofs.lemmas.List.Sums.{sum_by-cons}
 use Rattle.std.proofs.lemmas.List.Filters.{All-dedup}
 use Rattle.std.proofs.lemmas.List.Sorted.{All-permutation, IsPermutation-map, sum_by-IsPermutation}
 use Rattle.git_names.specs.declared.object_format.Format.{Format}
-use Rattle.git_msg.specs.declared.flags.Flag.{Flag}
-use Rattle.git_msg.specs.Arguments.{Arg, IsValue, ref_prefix, with_text, written_text}
-use Rattle.git_msg.specs.Asked.{LsRefsAsked, arguments_in, bytes_of, command_asked, ls_refs, where_asked}
-use Rattle.git_msg.specs.Kept.{IsCounted}
+use Rattle.git_names.specs.declared.object_format.Format.TheVariants.{Sha1}
+use Rattle.git_msg.specs.Arguments.{Arg, IsInRange, with_text, written_text}
+use Rattle.git_msg.specs.declared.words.Word.{Word}
+use Rattle.git_msg.specs.declared.words.Word.TheVariants.{Text as of_text}
+use Rattle.git_msg.specs.declared.words.TextWord.{TextWord}
+use Rattle.git_msg.specs.Asked.{bytes_of, is_word}
+use Rattle.git_msg.specs.Kept.{IsSound}
+use Rattle.git_msg.specs.Machine.ArgumentLists.{held, held_at, stored}
+use Rattle.git_msg.specs.Machine.HeldTexts.{texts_of}
+use Rattle.git_msg.specs.declared.lists.ArgumentLists.{ArgumentLists}
+use Rattle.git_msg.proofs.HeldArguments.{all_held, all_of_word, fewer_held, held_in_order}
 use Rattle.git_msg.specs.Prefixes.{Prunes, begins}
-use Rattle.git_msg.proofs.KeptBytes.{all_front, all_back}
-use Rattle.std.proofs.Common.{[], rules}
 
 -- fewer prefixes have no more bytes, and a property of all arguments still holds
 module _ (P : Arg → Type 0) (make : List ℕ → Arg) where
@@ -55,47 +60,50 @@ module _ (P : Arg → Type 0) (make : List ℕ → Arg) where
           let inside : k < length (x ∷ xs) = omega (arith, below, length-map (x ∷ xs) make) in
           subst P (sym (get_or-map make (x ∷ xs) k x d inside)) (h k x inside)
 
-  all_pruned : (xs : List (List ℕ)) → All P (map make xs) → All P (map make (dedup begins xs))
+  pub all_pruned : (xs : List (List ℕ)) → All P (map make xs) → All P (map make (dedup begins xs))
   all_pruned xs h = from_made (dedup begins xs) (All-dedup begins (λ p. P (make p)) xs (to_made xs h))
 
-  all_behind : (front xs ys : List Arg) → (All P xs → All P ys) → All P (front ++ xs) → All P (front ++ ys)
-  all_behind front xs ys more h = All-append P front ys (all_front P front xs h) (more (all_back P front xs h))
-
-  all_moved : (xs ys : List (List ℕ)) → IsPermutation xs ys → All P (map make xs) → All P (map make ys)
+  pub all_moved : (xs ys : List (List ℕ)) → IsPermutation xs ys → All P (map make xs) → All P (map make ys)
   all_moved xs ys moved = All-permutation P (map make xs) (map make ys) (IsPermutation-map make xs ys moved)
 
-  -- the same after other arguments
-  pub values_pruned : (front : List Arg) (xs ys : List (List ℕ)) → IsPermutation xs ys
-      → All P (front ++ map make xs) → All P (front ++ map make (dedup begins ys))
-  values_pruned front xs ys moved = all_behind front (map make xs) (map make (dedup begins ys)) (λ h. all_pruned ys (all_moved xs ys moved h))
+module _ {A : Type 0} (q new : ArgumentLists A)
+    (others : (word : Word) → is_word word (of_text TextWord.RefPrefix) ≡ false → held_at new word ≡ held_at q word)
+    (prunes : Prunes (texts_of q.texts TextWord.RefPrefix) (texts_of new.texts TextWord.RefPrefix)) where
+  made : List (List ℕ) → List Arg
+  made texts = map (with_text TextWord.RefPrefix) texts
 
-  pub bytes_pruned : (front : List Arg) (xs ys : List (List ℕ)) → IsPermutation xs ys
-      → sum_by weight (front ++ map make (dedup begins ys)) ≤ sum_by weight (front ++ map make xs)
-  bytes_pruned front xs ys moved =
-      let before = sum_by-append weight front (map make xs) in
-      let after = sum_by-append weight front (map make (dedup begins ys)) in
-      let same = sum_by-IsPermutation weight (map make xs) (map make ys) (IsPermutation-map make xs ys moved) in
-      let less = less_pruned ys in
-      omega (arith, before, after, same, less)
+  -- what holds of all arguments still does
+  all_at : (P : Arg → Type 0) → All P (held q) → (word : Word) → All P (held_at new word)
+  unfolding made
+  all_at P all (of_text TextWord.RefPrefix) =
+      subst (λ (ps : List (List ℕ)). All P (made ps)) (sym prunes.kept)
+      (all_pruned P (with_text TextWord.RefPrefix) prunes.moved
+      (all_moved P (with_text TextWord.RefPrefix) (texts_of q.texts TextWord.RefPrefix) prunes.moved prunes.same
+      (all_of_word q P all (of_text TextWord.RefPrefix))))
+  all_at P all word = subst (All P) (sym (others word refl)) (all_of_word q P all word)
 
--- the prefixes of an ls-refs request come after its flags
-flags : LsRefsAsked → List Arg
-flags q = where_asked q.peel Flag.Peel ++ (where_asked q.symrefs Flag.Symrefs ++ where_asked q.unborn Flag.Unborn)
+  pub all_stay : (P : Arg → Type 0) → All P (held q) → All P (held new)
+  all_stay P all = all_held new P (all_at P all)
 
-after_flags : (q : LsRefsAsked) (ps : List (List ℕ)) → arguments_in (ls_refs (record q { ref_prefixes = ps })) ≡ flags q ++ map (with_text ref_prefix) ps
-unfolding flags
-after_flags q ps = search (rules, append_assoc)
+  -- and have no more bytes
+  bytes_at : (word : Word) → bytes_of (held_at new word) ≤ bytes_of (held_at q word)
+  unfolding made
+  bytes_at (of_text TextWord.RefPrefix) =
+      let less = less_pruned (IsInRange Sha1) (with_text TextWord.RefPrefix) prunes.moved in
+      let now = ap (λ (ps : List (List ℕ)). bytes_of (made ps)) prunes.kept in
+      let same = sum_by-IsPermutation (λ arg. length (written_text arg)) (made (texts_of q.texts TextWord.RefPrefix)) (made prunes.moved)
+      (IsPermutation-map (with_text TextWord.RefPrefix) (texts_of q.texts TextWord.RefPrefix) prunes.moved prunes.same) in
+      omega (arith, less, now, same)
+  bytes_at word = omega (arith, ap bytes_of (others word refl))
 
-pub counted_pruned : (format : Format) (q : LsRefsAsked) (ps : List (List ℕ)) (kept : ℕ) → Prunes q.ref_prefixes ps → IsCounted format (ls_refs q) kept
-    → IsCounted format (ls_refs (record q { ref_prefixes = ps })) kept
-counted_pruned format q ps kept prunes counted =
-    let P : Arg → Type 0 = IsValue (command_asked (ls_refs q)) format in
-    let pruned : List (List ℕ) = dedup begins prunes.moved in
-    let before : arguments_in (ls_refs q) ≡ flags q ++ map (with_text ref_prefix) q.ref_prefixes = after_flags q q.ref_prefixes in
-    let after : arguments_in (ls_refs (record q { ref_prefixes = pruned })) ≡ flags q ++ map (with_text ref_prefix) pruned = after_flags q pruned in
-    rw prunes.kept (record {
-      values = subst (All P) (sym after) (values_pruned P (with_text ref_prefix) (flags q) q.ref_prefixes prunes.moved prunes.same
-          (subst (All P) before counted.values));
-      written = let less = bytes_pruned P (with_text ref_prefix) (flags q) q.ref_prefixes prunes.moved prunes.same in
-          let written = counted.written in omega (arith, less, written, ap bytes_of before, ap bytes_of after);
-    })
+  pub sound_pruned : (format : Format) (kept limit : ℕ) → stored new ≤ stored q
+      → IsSound (record { format = format; asked = held q; kept = kept; limit = limit; stored = stored q })
+      → IsSound (record { format = format; asked = held new; kept = kept; limit = limit; stored = stored new })
+  sound_pruned format kept limit less h = record {
+    ranges = all_stay (IsInRange format) h.ranges;
+    in_order = held_in_order new;
+    written = omega (arith, h.written, fewer_held q new (λ arg. length (written_text arg)) bytes_at);
+    covered = omega (arith, less, h.covered);
+    space = h.space;
+    in_range = h.in_range;
+  }

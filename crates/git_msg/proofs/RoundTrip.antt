@@ -1,12 +1,11 @@
 -- The written form of a request reads back.
-use Rattle.std.proofs.Common.{arith, ◌≡◌, ◌≢◌, ℕ, ◌+◌, ◌<◌, ◌≤◌, Bool, true, false, Some, None, List, [], ◌∷◌, ◌++◌, refl, ap, sym, rules}
-use Rattle.std.proofs.Common.{◌∙◌, ◌^◌, subst, length, slice_index, codes, decimal}
+use Rattle.std.proofs.Common.{arith, ◌≡◌, ◌≢◌, ℕ, ◌+◌, ◌≤◌, Bool, true, false, Some, None, List, [], ◌∷◌, ◌++◌, refl, ap, sym, rules}
+use Rattle.std.proofs.Common.{◌∙◌, subst, length, slice_index, codes}
 use Rattle.std.specs.Prelude.{All, IsTrue, map}
 use Rattle.std.proofs.lemmas.List.{append-nil}
 use Rattle.std.proofs.lemmas.List.Elements.{All-head, All-tail}
 use Rattle.std.proofs.lemmas.List.Sums.{sum_by-cons}
 use Rattle.git_names.specs.ObjectFormat.{name_of as format_name}
-use Rattle.git_names.specs.ObjectName.{ObjectName, IsObjectName, hex_of}
 use Rattle.git_names.specs.declared.object_format.Format.{Format}
 use Rattle.git_names.specs.declared.object_format.Format.TheVariants.{Sha1, Sha256}
 use Rattle.git_pkt.specs.Packets.{Pkt, flush, delim}
@@ -17,10 +16,14 @@ use Rattle.git_msg.specs.declared.arguments.Command.{Command}
 use Rattle.git_msg.specs.declared.arguments.Command.TheVariants.{LsRefs, Fetch, ObjectInfo}
 use Rattle.git_msg.specs.declared.flags.Flag.{Flag}
 use Rattle.git_msg.specs.declared.capability_key.Key.TheVariants.{AgentKey}
-use Rattle.git_msg.specs.Texts.{Follows, IsErrorText}
-use Rattle.git_msg.specs.Arguments.{Shape, flag_word, object_name, depth_number, time_number, prefix_text, kept_text, reference_name, row, MayFollow}
-use Rattle.git_msg.specs.Arguments.{Word, of_flag, Arg, Value, no_value, id_value, number_value, text_value, HasValueOf}
-use Rattle.git_msg.specs.Arguments.{HasArgumentOf, IsDepth, IsTime, IsNumberIn, IsInRange, IsNameIn, IsValue, is_offered, name_of, written_text, written_value}
+use Rattle.git_msg.specs.Texts.{IsErrorText}
+use Rattle.git_msg.specs.declared.words.Word.{Word}
+use Rattle.git_msg.specs.declared.words.Word.TheVariants.{Flag as of_flag, Object as of_object, Text as of_text, Number as of_number}
+use Rattle.git_msg.specs.declared.words.ObjectWord.{ObjectWord}
+use Rattle.git_msg.specs.declared.words.TextWord.{TextWord}
+use Rattle.git_msg.specs.declared.words.NumberWord.{NumberWord}
+use Rattle.git_msg.specs.Arguments.{Arg, alone, with_id, with_text, with_number, row, word_of, HasArgument, StatesValue, IsInRange, IsValue, is_offered}
+use Rattle.git_msg.specs.Arguments.{name_of, written_text, written_value}
 use Rattle.git_msg.specs.Capability.{is_value}
 use Rattle.git_msg.specs.Advertisement.{takes_command}
 use Rattle.git_msg.specs.Asked.{Asked, command_asked, asked_by, arguments_in, bytes_of, written_bytes, HasValues, AreOffered}
@@ -31,8 +34,10 @@ use Rattle.git_msg.specs.Machine.JudgedLine.{IsText}
 use Rattle.git_msg.specs.Checks.{Passes}
 use Rattle.git_msg.specs.Requests.{AreLines, Asks}
 use Rattle.git_msg.specs.WrittenRequest.{text_line, where_set, agent_line, format_line, argument_lines, lines_written}
-use Rattle.git_msg.proofs.ArgumentsInOrder.{arguments_in_order}
+use Rattle.git_msg.proofs.ArgumentsInOrder.{asks_for_it}
 use Rattle.git_msg.proofs.DigitValues.{decimal_reads_back}
+use Rattle.git_msg.proofs.KeptBytes.{small_number}
+use Rattle.git_msg.proofs.HeadWords.{written_is}
 use Rattle.git_msg.proofs.WrittenNames.{hex_of-reads_back}
 use Rattle.git_msg.proofs.LineLaws.{names_taken}
 use Rattle.git_msg.proofs.LineLists.{commands_snoc, delimiter_snoc, format_snoc, kept_snoc, argument_is_line, capability_is_line}
@@ -76,33 +81,23 @@ not_error text h e = h (ap (λ (xs : List ℕ). slice_index xs 0) e.spelled)
 -- the written form of an argument is not an error packet
 no_error_word : (word : Word) (rest : List ℕ) → ¬ IsErrorText ((row word).keyword ++ rest)
 no_error_word (of_flag Flag.Size) rest = not_error (codes "size" ++ rest) (λ e. omega arith)
+no_error_word (of_object ObjectWord.Want) rest = not_error (codes "want " ++ rest) (λ e. omega arith)
+no_error_word (of_text TextWord.Filter) rest = not_error (codes "filter " ++ rest) (λ e. omega arith)
+no_error_word (of_number NumberWord.Deepen) rest = not_error (codes "deepen " ++ rest) (λ e. omega arith)
 no_error_word word rest = not_error ((row word).keyword ++ rest) (λ e. omega arith)
 
 written_clean : (arg : Arg) → ¬ IsErrorText (written_text arg)
-written_clean arg = no_error_word arg.word (written_value arg.value)
+written_clean arg = no_error_word (word_of arg) (written_value arg)
 
-name_conveys : (word : List ℕ) (format : Format) (id : ObjectName) → IsNameIn format id
-    → Follows word (λ name. IsObjectName format name id) (word ++ hex_of id)
-name_conveys word format id value = record { value = hex_of id; spelled = refl; holds = hex_of-reads_back format id value }
+written_states : (format : Format) (arg : Arg) → IsInRange format arg → StatesValue format (written_value arg) arg
+written_states format (alone flag) fits = tt
+written_states format (with_id word id) fits = hex_of-reads_back format id fits
+written_states format (with_text word text) fits = (refl, fits)
+written_states format (with_number word number) fits =
+    record { is_number = decimal_reads_back number (small_number word number fits); in_range = fits }
 
-number_conveys : (word : List ℕ) (InRange : ℕ → Type 0) (number : ℕ) → number < 2 ^ 64 → InRange number
-    → Follows word (λ digits. IsNumberIn InRange digits number) (word ++ decimal number)
-number_conveys word InRange number small value = search (rules, decimal_reads_back)
-
--- and contains that argument
-value_conveys : (shape : Shape) (word : List ℕ) (format : Format) (value : Value) → MayFollow shape format value
-    → HasValueOf shape word format (word ++ written_value value) value
-value_conveys flag_word word format no_value fits = append-nil word
-value_conveys object_name word format (id_value id) fits = name_conveys word format id fits
-value_conveys depth_number word format (number_value depth) fits = number_conveys word IsDepth depth (omega (arith, fits.1)) fits
-value_conveys time_number word format (number_value time) fits = number_conveys word IsTime time (omega (arith, fits)) fits
-value_conveys prefix_text word format (text_value prefix) fits = (refl, fits)
-value_conveys kept_text word format (text_value kept) fits = (refl, fits)
-value_conveys reference_name word format (text_value name) fits = (refl, fits)
-value_conveys shape word format value fits = absurd fits
-
-pub written_conveys : (format : Format) (arg : Arg) → IsInRange format arg → HasArgumentOf format (written_text arg) arg
-written_conveys format arg value = value_conveys (row arg.word).shape (row arg.word).keyword format arg.value value
+written_conveys : (format : Format) (arg : Arg) → IsInRange format arg → HasArgument format (written_text arg) arg
+written_conveys format arg fits = record { value = written_value arg; spelled = written_is arg; states = written_states format arg fits }
 
 argument_reads : (c : Command) (offer : Offer) (arg : Arg) → IsValue c offer.format arg → is_offered offer arg ≡ true
     → IsText c offer (written_text arg) arg
@@ -336,7 +331,7 @@ lines_read_back offer limit writes_agent writes_format asked gs meant taken valu
     let c = command_asked asked in
     let args = arguments_in asked in
     let lines = lines_read writes_agent writes_format c args in
-    let texts : AreTexts c offer args = λ k d within. argument_reads c offer _ (values k d within) (offered k d within) in
+    let texts : AreTexts c offer args = λ k d within. argument_reads c offer _ (values.allowed k d within) (offered k d within) in
     let f = lines_finish offer limit c writes_agent writes_format args gs meant taken texts fits h in
     let conveys = lines_convey writes_agent writes_format c args in
     record {
@@ -348,7 +343,7 @@ lines_read_back offer limit writes_agent writes_format asked gs meant taken valu
       ends = f.ends;
       taken = f.taken;
       once = conveys.conveys_commands;
-      asked_is = sym (ap (asked_by c) conveys.conveys_arguments ∙ arguments_in_order asked);
+      asked_is = sym (ap (asked_by c) conveys.conveys_arguments ∙ asks_for_it asked values.in_order);
       kept_is = sym conveys.has_bytes;
       delimited = conveys.is_delimited;
     }

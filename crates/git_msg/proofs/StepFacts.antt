@@ -30,7 +30,7 @@ use Rattle.git_msg.specs.Machine.RequestReader.{InCapabilities, InArguments, InL
 use Rattle.git_msg.specs.Machine.RequestReaderSteps.{Goes, IsExpected, IsFree, IsSame, LacksMemory, Notes, StepsOn, is_first, with_line}
 use Rattle.git_msg.proofs.Admission.{barred_for_limit, barred_text}
 use Rattle.git_msg.proofs.BoundedRequests.{one_bound}
-use Rattle.git_msg.proofs.KeptArguments.{one_more}
+use Rattle.git_msg.proofs.FurtherArguments.{one_more}
 use Rattle.git_msg.proofs.LineLaws.{no_argument_of}
 use Rattle.git_msg.proofs.LineLists.{commands_snoc, arguments_snoc, format_snoc, delimiter_snoc, kept_snoc, argument_is_line, capability_is_line}
 use Rattle.git_msg.proofs.PacketFaults.{not_for_limit_by_capability, not_for_limit_by_end, not_for_limit_by_text}

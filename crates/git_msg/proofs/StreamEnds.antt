@@ -1,5 +1,5 @@
 -- A reader of requests from bytes, at the end of its input.
-use Rattle.std.proofs.Common.{[], arith, ◌≡◌, ◌≢◌, ◌⊎◌, ℕ, ◌+◌, true, false, List, ◌++◌, length, None, refl, sym, ap, ◌∙◌, subst, append-nil, rules}
+use Rattle.std.proofs.Common.{[], arith, inr, ◌≡◌, ◌≢◌, ◌⊎◌, ℕ, ◌+◌, true, false, List, ◌++◌, length, None, refl, sym, ap, ◌∙◌, subst, append-nil, rules}
 use Rattle.std.proofs.Props.{props}
 use Rattle.git_pkt.specs.Splits.{Given}
 use Rattle.git_pkt.specs.Machine.PacketReader.{ReadsOn, fault_of as packet_fault, is_open, open_length, passes_of, position_of}
@@ -76,7 +76,9 @@ module _ {A : Type 0} (old new : RequestStream A) (fault : Fault) (wants : wants
   -- and inside a packet
   pub closed_open : is_open old.packets ≡ true → fault.offset + open_length old.packets ≡ position_of old.packets
       → (used : List ℕ) (asked : List Asked) → HasRead used asked old → HasRead used asked new
-  closed_open opened at used asked h = grind (arith, common_steps, sound_rest, closed_read, rest_length, some_inside)
+  closed_open opened at used asked h =
+      let held = (sound_rest old.packets 0 used h.packets h.rest sound h.reads).0 in
+      closed_read used asked h (omega (arith, rest_length old.packets h.rest held, at)) (inr (some_inside old.packets h.rest held opened))
 
   -- or between two packets
   pub closed_within : is_open old.packets ≡ false → (old.stage ≡ Between → ⊥) → fault.offset ≡ position_of old.packets

@@ -1,5 +1,5 @@
 -- The argument lines of requests, as in gitprotocol-v2(5).
-use Rattle.std.specs.Prelude.{◌≡◌, ◌≢◌, ◌⊎◌, ℕ, ◌+◌, ◌<◌, ◌≤◌, Bool, true, false, List, [], ◌∷◌, ◌++◌, length, map, codes, decimal, if◌then◌else◌}
+use Rattle.std.specs.Prelude.{◌≡◌, ◌≢◌, ◌⊎◌, ℕ, ◌<◌, ◌≤◌, ◌+◌, Bool, true, false, List, [], ◌∷◌, ◌++◌, length, codes, decimal}
 use Rattle.git_names.specs.ObjectName.{ObjectName, IsObjectName, IsNoObjectName, IsOid, hex_of}
 use Rattle.git_names.specs.RefName.{IsRefName}
 use Rattle.git_names.specs.declared.object_format.Format.{Format}
@@ -8,108 +8,64 @@ use Rattle.git_pkt.specs.declared.fault.Kind.TheVariants.{UnknownArgument, BadLi
 use Rattle.git_msg.specs.declared.arguments.Command.{Command}
 use Rattle.git_msg.specs.declared.arguments.Command.TheVariants.{LsRefs, Fetch, ObjectInfo}
 use Rattle.git_msg.specs.declared.arguments.Argument.{Argument}
-use Rattle.git_msg.specs.declared.arguments.Argument.TheVariants.{RefPrefix, Want, Have, Filter}
-use Rattle.git_msg.specs.declared.arguments.Argument.TheVariants.{Shallow, Deepen, DeepenSince, DeepenNot, WantRef, ObjectId}
 use Rattle.git_msg.specs.declared.flags.Flag.{Flag}
+use Rattle.git_msg.specs.declared.words.Word.{Word}
+use Rattle.git_msg.specs.declared.words.Word.TheVariants.{Flag as of_flag, Object as of_object, Text as of_text, Number as of_number}
+use Rattle.git_msg.specs.declared.words.ObjectWord.{ObjectWord}
+use Rattle.git_msg.specs.declared.words.TextWord.{TextWord}
+use Rattle.git_msg.specs.declared.words.NumberWord.{NumberWord}
 use Rattle.git_msg.specs.declared.offers.Offer.{Offer}
-use Rattle.git_msg.specs.Flags.{IsNoFlagOf, all_flags, always, flag_row}
+use Rattle.git_msg.specs.Flags.{Row, always, entry, flag_row}
 use Rattle.git_msg.specs.Numbers.{IsNumber}
-use Rattle.git_msg.specs.Texts.{Follows, BeginsWithNone}
 
--- a word at the head of an argument's line: a flag, or the word before a value
-pub data Word : Type 0 where
-  of_flag : Flag → Word
-  ref_prefix : Word
-  want : Word
-  have : Word
-  filter_spec : Word
-  shallow : Word
-  deepen : Word
-  deepen_since : Word
-  deepen_not : Word
-  want_ref : Word
-  object_id : Word
-
--- what may come after a word
-pub data Shape : Type 0 where
-  flag_word : Shape
-  object_name : Shape
-  depth_number : Shape
-  time_number : Shape
-  prefix_text : Shape
-  kept_text : Shape
-  reference_name : Shape
-
--- the row of a word: its text, with a space at its end if a value follows; the command that has it; what follows it; and
--- whether an offer has the feature that it needs
-pub record Row : Type 0 where
-  pub keyword : List ℕ
-  pub command : Command
-  pub shape : Shape
-  pub offered : Offer → Bool
-
-abbrev pub entry : List ℕ → Command → Shape → (Offer → Bool) → Row
-entry keyword command shape offered = record { keyword = keyword; command = command; shape = shape; offered = offered }
-
--- the table of arguments
+-- the table of words
 abbrev pub row : Word → Row
-row (of_flag flag) = entry (flag_row flag).text (flag_row flag).command flag_word (flag_row flag).offered
-row ref_prefix = entry (codes "ref-prefix ") LsRefs prefix_text always
-row want = entry (codes "want ") Fetch object_name always
-row have = entry (codes "have ") Fetch object_name always
-row filter_spec = entry (codes "filter ") Fetch kept_text (λ offer. offer.filter)
-row shallow = entry (codes "shallow ") Fetch object_name (λ offer. offer.shallow)
-row deepen = entry (codes "deepen ") Fetch depth_number (λ offer. offer.shallow)
-row deepen_since = entry (codes "deepen-since ") Fetch time_number (λ offer. offer.shallow)
-row deepen_not = entry (codes "deepen-not ") Fetch kept_text (λ offer. offer.shallow)
-row want_ref = entry (codes "want-ref ") Fetch reference_name (λ offer. offer.ref_in_want)
-row object_id = entry (codes "oid ") ObjectInfo object_name always
+row (of_flag flag) = flag_row flag
+row (of_object ObjectWord.Want) = entry (codes "want ") Fetch always
+row (of_object ObjectWord.Have) = entry (codes "have ") Fetch always
+row (of_object ObjectWord.Shallow) = entry (codes "shallow ") Fetch (λ offer. offer.shallow)
+row (of_object ObjectWord.ObjectId) = entry (codes "oid ") ObjectInfo always
+row (of_text TextWord.RefPrefix) = entry (codes "ref-prefix ") LsRefs always
+row (of_text TextWord.Filter) = entry (codes "filter ") Fetch (λ offer. offer.filter)
+row (of_text TextWord.DeepenNot) = entry (codes "deepen-not ") Fetch (λ offer. offer.shallow)
+row (of_text TextWord.WantRef) = entry (codes "want-ref ") Fetch (λ offer. offer.ref_in_want)
+row (of_number NumberWord.Deepen) = entry (codes "deepen ") Fetch (λ offer. offer.shallow)
+row (of_number NumberWord.DeepenSince) = entry (codes "deepen-since ") Fetch (λ offer. offer.shallow)
 
--- the words before a value
-abbrev pub value_words : List Word
-value_words = ref_prefix ∷ want ∷ have ∷ filter_spec ∷ shallow ∷ deepen ∷ deepen_since ∷ deepen_not ∷ want_ref ∷ object_id ∷ []
+-- the words of a command, in the order in which their arguments are written
+abbrev pub words_of : Command → List Word
+words_of LsRefs = of_flag Flag.Peel ∷ of_flag Flag.Symrefs ∷ of_flag Flag.Unborn ∷ of_text TextWord.RefPrefix ∷ []
+words_of Fetch =
+    of_flag Flag.ThinPack ∷ of_flag Flag.NoProgress ∷ of_flag Flag.IncludeTag ∷ of_flag Flag.OfsDelta ∷ of_flag Flag.WaitForDone
+    ∷ of_text TextWord.Filter ∷ of_object ObjectWord.Shallow ∷ of_number NumberWord.Deepen ∷ of_number NumberWord.DeepenSince
+    ∷ of_text TextWord.DeepenNot ∷ of_flag Flag.DeepenRelative ∷ of_object ObjectWord.Want ∷ of_text TextWord.WantRef
+    ∷ of_object ObjectWord.Have ∷ of_flag Flag.Done ∷ []
+words_of ObjectInfo = of_flag Flag.Size ∷ of_object ObjectWord.ObjectId ∷ []
 
 -- all words
 abbrev pub words : List Word
-words = map of_flag all_flags ++ value_words
-
--- what comes after a word
-pub data Value : Type 0 where
-  no_value : Value
-  id_value : ObjectName → Value
-  number_value : ℕ → Value
-  text_value : List ℕ → Value
+words = words_of LsRefs ++ (words_of Fetch ++ words_of ObjectInfo)
 
 -- an argument, wherever its text lies
-pub record Arg : Type 0 where
-  pub word : Word
-  pub value : Value
-
-abbrev pub alone : Word → Arg
-alone word = record { word = word; value = no_value }
-
-abbrev pub with_id : Word → ObjectName → Arg
-with_id word id = record { word = word; value = id_value id }
-
-abbrev pub with_number : Word → ℕ → Arg
-with_number word number = record { word = word; value = number_value number }
-
-abbrev pub with_text : Word → List ℕ → Arg
-with_text word text = record { word = word; value = text_value text }
+pub data Arg : Type 0 where
+  alone : Flag → Arg
+  with_id : ObjectWord → ObjectName → Arg
+  with_text : TextWord → List ℕ → Arg
+  with_number : NumberWord → ℕ → Arg
 
 -- the argument that a borrowed argument shows
 abbrev pub shown : Argument → Arg
-shown (Argument.Flag flag) = alone (of_flag flag)
-shown (RefPrefix prefix) = with_text ref_prefix prefix.now
-shown (Want id) = with_id want id
-shown (Have id) = with_id have id
-shown (Filter spec) = with_text filter_spec spec.now
-shown (Shallow id) = with_id shallow id
-shown (Deepen depth) = with_number deepen depth
-shown (DeepenSince time) = with_number deepen_since time
-shown (DeepenNot revision) = with_text deepen_not revision.now
-shown (WantRef name) = with_text want_ref name.now
-shown (ObjectId id) = with_id object_id id
+shown (Argument.Flag flag) = alone flag
+shown (Argument.Object word id) = with_id word id
+shown (Argument.Text word text) = with_text word text.now
+shown (Argument.Number word number) = with_number word number
+
+-- the word at the head of its line
+abbrev pub word_of : Arg → Word
+word_of (alone flag) = of_flag flag
+word_of (with_id word id) = of_object word
+word_of (with_text word text) = of_text word
+word_of (with_number word number) = of_number word
 
 -- the command's key, as it stands after `command=`
 abbrev pub name_of : Command → List ℕ
@@ -119,19 +75,38 @@ name_of ObjectInfo = codes "object-info"
 
 -- the command that has the argument
 abbrev pub command_with : Arg → Command
-command_with arg = (row arg.word).command
+command_with arg = (row (word_of arg)).command
+
+-- whether the feature that the argument needs is advertised
+abbrev pub is_offered : Offer → Arg → Bool
+is_offered offer arg = (row (word_of arg)).offered offer
 
 -- the maximum length of a text that is kept
 abbrev pub most_text : ℕ
 most_text = 32000
 
--- the depth of a shallow history, in commits
-abbrev pub IsDepth : ℕ → Type 0
-IsDepth depth = (1 ≤ depth) × (depth ≤ 2147483647)
+-- the maximum of a limit on the bytes of kept texts
+abbrev pub most_limit : ℕ
+most_limit = 1073741824
 
--- a time, in seconds
-abbrev pub IsTime : ℕ → Type 0
-IsTime time = time ≤ 9223372036854775807
+-- the minimum length of a text after the word
+abbrev pub least_text : TextWord → ℕ
+least_text TextWord.RefPrefix = 0
+least_text _ = 1
+
+-- the text is allowed after the word: a reference name, or any text of such a length
+abbrev pub IsTextOf : TextWord → List ℕ → Type 0
+IsTextOf TextWord.WantRef text = IsRefName text
+IsTextOf word text = (least_text word ≤ length text) × (length text ≤ most_text)
+
+abbrev pub IsNoTextOf : TextWord → List ℕ → Type 0
+IsNoTextOf TextWord.WantRef text = ¬ IsRefName text
+IsNoTextOf word text = (length text < least_text word) ⊎ (most_text < length text)
+
+-- the number is allowed after the word: a depth in commits, or a time in seconds
+abbrev pub IsNumberOf : NumberWord → ℕ → Type 0
+IsNumberOf NumberWord.Deepen depth = (1 ≤ depth) × (depth ≤ 2147483647)
+IsNumberOf NumberWord.DeepenSince time = time ≤ 9223372036854775807
 
 -- a number in the range, in decimal digits
 pub record IsNumberIn (InRange : ℕ → Type 0) (text : List ℕ) (number : ℕ) : Type 0 where
@@ -142,89 +117,54 @@ pub record IsNumberIn (InRange : ℕ → Type 0) (text : List ℕ) (number : ℕ
 abbrev pub IsNoNumberIn : (ℕ → Type 0) → List ℕ → Type 0
 IsNoNumberIn InRange text = (number : ℕ) → ¬ IsNumberIn InRange text number
 
--- a text that is kept but not parsed
-abbrev pub IsKeptText : List ℕ → Type 0
-IsKeptText text = (1 ≤ length text) × (length text ≤ most_text)
-
--- a text that is too short to be kept, or too long
-abbrev pub IsNoKeptText : List ℕ → Type 0
-IsNoKeptText text = (length text < 1) ⊎ (most_text < length text)
-
--- the maximum of a limit on the bytes of kept texts
-abbrev pub most_limit : ℕ
-most_limit = 1073741824
-
--- the line is the word with this value, and the value is allowed there
-abbrev pub HasValueOf : Shape → List ℕ → Format → List ℕ → Value → Type 0
-HasValueOf flag_word word format line no_value = line ≡ word
-HasValueOf object_name word format line (id_value id) = Follows word (λ name. IsObjectName format name id) line
-HasValueOf depth_number word format line (number_value depth) = Follows word (λ digits. IsNumberIn IsDepth digits depth) line
-HasValueOf time_number word format line (number_value time) = Follows word (λ digits. IsNumberIn IsTime digits time) line
-HasValueOf prefix_text word format line (text_value prefix) = (line ≡ word ++ prefix) × (length prefix ≤ most_text)
-HasValueOf kept_text word format line (text_value kept) = (line ≡ word ++ kept) × IsKeptText kept
-HasValueOf reference_name word format line (text_value name) = (line ≡ word ++ name) × IsRefName name
-HasValueOf _ word format line _ = ⊥
-
--- the text contains this argument, and its value is allowed there
-abbrev pub HasArgumentOf : Format → List ℕ → Arg → Type 0
-HasArgumentOf format text arg = HasValueOf (row arg.word).shape (row arg.word).keyword format text arg.value
-
--- the text is this argument of the command
-abbrev pub IsArgument : Command → Format → List ℕ → Arg → Type 0
-IsArgument command format text arg = (command_with arg ≡ command) × HasArgumentOf format text arg
-
 -- an object name of the format
 pub record IsNameIn (format : Format) (id : ObjectName) : Type 0 where
   pub of_format : id.format ≡ format
   pub is_oid : IsOid id
 
--- the value is allowed after such a word, in a request whose object names have this format
-abbrev pub MayFollow : Shape → Format → Value → Type 0
-MayFollow flag_word format no_value = Unit {0}
-MayFollow object_name format (id_value id) = IsNameIn format id
-MayFollow depth_number format (number_value depth) = IsDepth depth
-MayFollow time_number format (number_value time) = IsTime time
-MayFollow prefix_text format (text_value prefix) = length prefix ≤ most_text
-MayFollow kept_text format (text_value kept) = IsKeptText kept
-MayFollow reference_name format (text_value name) = IsRefName name
-MayFollow _ format _ = ⊥
+-- the line of a word, with the text that follows it: nothing follows a flag
+abbrev pub line_of : Word → List ℕ → List ℕ
+line_of (of_flag flag) value = (flag_row flag).keyword
+line_of word value = (row word).keyword ++ value
 
--- the value is not allowed there
-abbrev pub MayNotFollow : Shape → Format → Value → Type 0
-MayNotFollow object_name format (id_value id) = id.format ≢ format
-MayNotFollow depth_number format (number_value depth) = ¬ IsDepth depth
-MayNotFollow time_number format (number_value time) = ¬ IsTime time
-MayNotFollow prefix_text format (text_value prefix) = most_text < length prefix
-MayNotFollow kept_text format (text_value kept) = IsNoKeptText kept
-MayNotFollow reference_name format (text_value name) = ¬ IsRefName name
-MayNotFollow _ format _ = ⊥
+-- the text after the word states the argument's value, and that is allowed there
+abbrev pub StatesValue : Format → List ℕ → Arg → Type 0
+StatesValue format value (alone flag) = Unit {0}
+StatesValue format value (with_id word id) = IsObjectName format value id
+StatesValue format value (with_text word text) = (value ≡ text) × IsTextOf word text
+StatesValue format value (with_number word number) = IsNumberIn (IsNumberOf word) value number
 
--- the error for a value that is not allowed
-abbrev pub refusal_of : Shape → Kind
-refusal_of flag_word = UnknownArgument
-refusal_of object_name = BadObjectName
-refusal_of depth_number = BadNumber
-refusal_of time_number = BadNumber
-refusal_of reference_name = BadRefName
-refusal_of prefix_text = BadLine
-refusal_of kept_text = BadLine
+-- the text contains this argument, and its value is allowed there
+pub record HasArgument (format : Format) (text : List ℕ) (arg : Arg) : Type 0 where
+  pub value : List ℕ
+  pub spelled : text ≡ line_of (word_of arg) value
+  pub states : StatesValue format value arg
+
+-- the text is this argument of the command
+abbrev pub IsArgument : Command → Format → List ℕ → Arg → Type 0
+IsArgument command format text arg = (command_with arg ≡ command) × HasArgument format text arg
 
 -- the argument's value is allowed in a request whose object names have this format
 abbrev pub IsInRange : Format → Arg → Type 0
-IsInRange format arg = MayFollow (row arg.word).shape format arg.value
+IsInRange format (alone flag) = Unit {0}
+IsInRange format (with_id word id) = IsNameIn format id
+IsInRange format (with_text word text) = IsTextOf word text
+IsInRange format (with_number word number) = IsNumberOf word number
 
--- the argument's value is not allowed there, and is refused with this error
-abbrev pub IsOutOfRange : Format → Arg → Kind → Type 0
-IsOutOfRange format arg kind = MayNotFollow (row arg.word).shape format arg.value × (kind ≡ refusal_of (row arg.word).shape)
+-- the error for a value that is not allowed after the word
+abbrev pub refusal_of : Word → Kind
+refusal_of (of_flag flag) = UnknownArgument
+refusal_of (of_object word) = BadObjectName
+refusal_of (of_text TextWord.WantRef) = BadRefName
+refusal_of (of_text word) = BadLine
+refusal_of (of_number word) = BadNumber
 
--- if a value has to be a reference name, it is one
-abbrev pub IsNamed : Shape → Value → Type 0
-IsNamed reference_name (text_value name) = IsRefName name
-IsNamed _ _ = Unit {0}
-
--- if the argument requests a reference by name, that is a reference name
-abbrev pub HasName : Arg → Type 0
-HasName arg = IsNamed (row arg.word).shape arg.value
+-- the argument's value is not allowed there
+abbrev pub HasWrongValue : Format → Arg → Type 0
+HasWrongValue format (alone flag) = ⊥
+HasWrongValue format (with_id word id) = id.format ≢ format
+HasWrongValue format (with_text word text) = IsNoTextOf word text
+HasWrongValue format (with_number word number) = ¬ IsNumberOf word number
 
 -- the argument is allowed in a request of the command and the format
 abbrev pub IsValue : Command → Format → Arg → Type 0
@@ -233,62 +173,37 @@ IsValue command format arg = (command_with arg ≡ command) × IsInRange format 
 -- the argument is refused there with this error: if it belongs to another command, its value is not judged
 abbrev pub IsValueFault : Command → Format → Arg → Kind → Type 0
 IsValueFault command format arg kind =
-    ((command_with arg ≢ command) × (kind ≡ UnknownArgument)) ⊎ ((command_with arg ≡ command) × IsOutOfRange format arg kind)
-
--- whether the feature that the argument needs is advertised
-abbrev pub is_offered : Offer → Arg → Bool
-is_offered offer arg = (row arg.word).offered offer
+    ((command_with arg ≢ command) × (kind ≡ UnknownArgument))
+    ⊎ ((command_with arg ≡ command) × HasWrongValue format arg × (kind ≡ refusal_of (word_of arg)))
 
 -- the text is an argument that a request of this command may have
 pub record ReadsAs (command : Command) (offer : Offer) (text : List ℕ) (arg : Arg) : Type 0 where
   pub is_argument : IsArgument command offer.format text arg
   pub offered : is_offered offer arg ≡ true
 
-abbrev pub is_command : Command → Command → Bool
-is_command LsRefs LsRefs = true
-is_command Fetch Fetch = true
-is_command ObjectInfo ObjectInfo = true
-is_command _ _ = false
-
--- the keywords of the command's words
-abbrev pub keywords_among : Command → List Word → List (List ℕ)
-keywords_among command [] = []
-keywords_among command (word ∷ others) =
-    if is_command (row word).command command then (row word).keyword ∷ keywords_among command others else keywords_among command others
-
--- the keywords of the command's arguments that have a value
-abbrev pub keywords_of : Command → List (List ℕ)
-keywords_of command = keywords_among command value_words
-
--- the text after the word is no value that is allowed there
-abbrev pub IsNoValue : Shape → Format → List ℕ → Type 0
-IsNoValue flag_word format value = ⊥
-IsNoValue object_name format name = IsNoObjectName format name
-IsNoValue depth_number format digits = IsNoNumberIn IsDepth digits
-IsNoValue time_number format digits = IsNoNumberIn IsTime digits
-IsNoValue prefix_text format prefix = most_text < length prefix
-IsNoValue kept_text format kept = IsNoKeptText kept
-IsNoValue reference_name format name = ¬ IsRefName name
-
--- a text that begins with this word of the command is refused for its value, with this error
-pub record IsRowFault (command : Command) (format : Format) (word : Word) (text : List ℕ) (kind : Kind) : Type 0 where
-  pub of : (row word).command ≡ command
-  pub follows : Follows (row word).keyword (IsNoValue (row word).shape format) text
-  pub named : kind ≡ refusal_of (row word).shape
-
--- the text begins with none of the command's words before a value, or with one whose value is not allowed there
-abbrev pub IsNoValueOf : Command → Format → List ℕ → Kind → Type 0
-IsNoValueOf command format text kind =
-    (BeginsWithNone (keywords_of command) text × (kind ≡ UnknownArgument)) ⊎ ((word : Word) × IsRowFault command format word text kind)
-
 -- the text is no argument of the command
 abbrev pub IsNoArgument : Command → List ℕ → Type 0
-IsNoArgument command text = IsNoFlagOf command text × BeginsWithNone (keywords_of command) text
+IsNoArgument command text = (word : Word) (value : List ℕ) → (row word).command ≡ command → text ≢ line_of word value
+
+-- the text after the word is no value that is allowed there
+abbrev pub IsNoValue : Word → Format → List ℕ → Type 0
+IsNoValue (of_flag flag) format value = ⊥
+IsNoValue (of_object word) format name = IsNoObjectName format name
+IsNoValue (of_text word) format text = IsNoTextOf word text
+IsNoValue (of_number word) format digits = IsNoNumberIn (IsNumberOf word) digits
+
+-- a text that begins with a word of the command is refused for its value, with this error
+pub record IsRowFault (command : Command) (format : Format) (text : List ℕ) (kind : Kind) : Type 0 where
+  pub word : Word
+  pub value : List ℕ
+  pub of : (row word).command ≡ command
+  pub spelled : text ≡ line_of word value
+  pub refused : IsNoValue word format value
+  pub named : kind ≡ refusal_of word
 
 -- the text is no argument of the command, or its value is not allowed there
 abbrev pub IsTextFault : Command → Format → List ℕ → Kind → Type 0
-IsTextFault command format text kind =
-    (IsNoArgument command text × (kind ≡ UnknownArgument)) ⊎ ((word : Word) × IsRowFault command format word text kind)
+IsTextFault command format text kind = (IsNoArgument command text × (kind ≡ UnknownArgument)) ⊎ IsRowFault command format text kind
 
 -- the text is an argument of the command, but needs a feature that is not advertised
 pub record IsUnoffered (command : Command) (offer : Offer) (text : List ℕ) : Type 0 where
@@ -298,38 +213,27 @@ pub record IsUnoffered (command : Command) (offer : Offer) (text : List ℕ) : T
 
 -- the text is no argument of the command, or its value is not allowed there, or it was not advertised
 abbrev pub IsArgumentFault : Command → Offer → List ℕ → Kind → Type 0
-IsArgumentFault command offer text kind =
-    (IsNoArgument command text × (kind ≡ UnknownArgument))
-    ⊎ (((word : Word) × IsRowFault command offer.format word text kind) ⊎ (IsUnoffered command offer text × (kind ≡ NotAdvertised)))
+IsArgumentFault command offer text kind = IsTextFault command offer.format text kind ⊎ (IsUnoffered command offer text × (kind ≡ NotAdvertised))
 
 -- a value, as it is written
-abbrev pub written_value : Value → List ℕ
-written_value no_value = []
-written_value (id_value id) = hex_of id
-written_value (number_value number) = decimal number
-written_value (text_value text) = text
+abbrev pub written_value : Arg → List ℕ
+written_value (alone flag) = []
+written_value (with_id word id) = hex_of id
+written_value (with_text word text) = text
+written_value (with_number word number) = decimal number
 
 -- the line of an argument, as it is written
 abbrev pub written_text : Arg → List ℕ
-written_text arg = (row arg.word).keyword ++ written_value arg.value
+written_text arg = (row (word_of arg)).keyword ++ written_value arg
 
 -- how many bytes are stored for a value: 33 for an object name; for a text its own, two for its length and four for the place where it ends
-abbrev pub stored_value : Value → ℕ
-stored_value no_value = 0
-stored_value (id_value id) = 33
-stored_value (number_value number) = 0
-stored_value (text_value text) = length text + 6
-
 abbrev pub stored_in : Arg → ℕ
-stored_in arg = stored_value arg.value
-
--- a value that memory is taken for
-abbrev pub ValueTakesMemory : Value → Type 0
-ValueTakesMemory no_value = ⊥
-ValueTakesMemory (id_value id) = Unit {0}
-ValueTakesMemory (number_value number) = ⊥
-ValueTakesMemory (text_value text) = Unit {0}
+stored_in (with_id word id) = 33
+stored_in (with_text word text) = length text + 6
+stored_in _ = 0
 
 -- the argument has a value that memory is taken for
 abbrev pub TakesMemory : Arg → Type 0
-TakesMemory arg = ValueTakesMemory arg.value
+TakesMemory (with_id word id) = Unit {0}
+TakesMemory (with_text word text) = Unit {0}
+TakesMemory _ = ⊥

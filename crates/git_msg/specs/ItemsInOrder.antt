@@ -29,7 +29,7 @@ module _ {X Y : Type 0} (May : List Y → X → Y → Type 0) where
   abbrev pub HasBad : ℕ → ℕ → List X → Type 0
   HasBad first number = StopsAt (IsBadAt first number)
 
-  -- after the items the text is one that takes memory, and so many bytes of it were refused
+  -- after the items the text is one that takes memory, which refused so many bytes
   pub record LacksMemory (Takes : Y → Type 0) (bytes : List Y → Y → ℕ) (refuses : ℕ → Type 0) (items : List Y) (text : X) : Type 0 where
     pub item : Y
     pub may : May items text item

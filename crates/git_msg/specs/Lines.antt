@@ -17,7 +17,8 @@ use Rattle.git_msg.specs.Texts.{IsErrorText, IsNoneOf}
 use Rattle.git_msg.specs.Capability.{IsCapability, IsNoCapability}
 use Rattle.git_msg.specs.Advertisement.{takes_command}
 use Rattle.git_msg.specs.Arguments.{Arg, name_of, ReadsAs, IsArgumentFault}
-use Rattle.git_msg.specs.Asked.{Asked, ls_refs, fetch, object_info, HasWants, asked_by, has_deepen_conflict}
+use Rattle.git_msg.specs.declared.flags.Flag.{Flag}
+use Rattle.git_msg.specs.Asked.{Asked, ls_refs, fetch, object_info, HasWants, asked_by, flag_among, has_deepen_conflict}
 use Rattle.git_msg.specs.Checks.{Check, check, unless, Refuses, Passes}
 
 -- a packet of a request that is not refused: the capability lines, the delimiter, and the arguments with the
@@ -206,7 +207,7 @@ end_checks (ls_refs q) = []
 end_checks (fetch q) =
     check (has_deepen_conflict q ≡ false) (has_deepen_conflict q ≡ true) DeepenConflict
     ∷ check (HasWants q) (¬ HasWants q) NoWants ∷ []
-end_checks (object_info q) = check (q.size ≡ true) (q.size ≡ false) NoSize ∷ []
+end_checks (object_info q) = check (flag_among q Flag.Size ≡ true) (flag_among q Flag.Size ≡ false) NoSize ∷ []
 
 abbrev pub at_end : List Line → Check
 at_end lines = record {

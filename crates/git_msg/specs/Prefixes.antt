@@ -5,7 +5,8 @@ use Rattle.std.specs.List.Sorted.{IsPermutation}
 use Rattle.std.specs.Ordering.{nat_cmp, is_le}
 use Rattle.std.specs.Cmp.Lexicographic.{slice_cmp}
 use Rattle.std.specs.declared.cmp.Ordering.{Ordering}
-use Rattle.git_msg.specs.Asked.{LsRefsAsked}
+use Rattle.git_msg.specs.Arguments.{Arg}
+use Rattle.git_msg.specs.Asked.{ref_prefixes_in, peel_in, symrefs_in, unborn_in}
 use Rattle.git_msg.specs.Kept.{Kept}
 
 -- the order of texts by their bytes
@@ -52,12 +53,18 @@ pub record Prunes (ps qs : List (List ℕ)) : Type 0 where
   pub same : IsPermutation ps moved
   pub kept : qs ≡ dedup begins moved
 
+-- the texts in their order, without those that begin with another: they show the same names
+pub record PutsInOrder (old new : List (List ℕ)) : Type 0 where
+  pub ordered : IsOrdered new
+  pub alike : ShowAlike old new
+  pub prunes : Prunes old new
+
 -- the same request, with prefixes that show the same names
-pub record OrdersPrefixes (old new : Kept LsRefsAsked) : Type 0 where
-  pub symrefs : new.asked.symrefs ≡ old.asked.symrefs
-  pub peel : new.asked.peel ≡ old.asked.peel
-  pub unborn : new.asked.unborn ≡ old.asked.unborn
-  pub alike : ShowAlike old.asked.ref_prefixes new.asked.ref_prefixes
+pub record OrdersPrefixes (old new : Kept (List Arg)) : Type 0 where
+  pub symrefs : symrefs_in new.asked ≡ symrefs_in old.asked
+  pub peel : peel_in new.asked ≡ peel_in old.asked
+  pub unborn : unborn_in new.asked ≡ unborn_in old.asked
+  pub alike : ShowAlike (ref_prefixes_in old.asked) (ref_prefixes_in new.asked)
   pub kept : new.kept ≡ old.kept
   pub limit : new.limit ≡ old.limit
   pub format : new.format ≡ old.format

@@ -57,11 +57,6 @@ IsNoneOf (word ∷ words) text = (text ≢ word) × IsNoneOf words text
 abbrev pub BeginsOtherThan : List ℕ → List ℕ → Type 0
 BeginsOtherThan word text = (rest : List ℕ) → text ≢ word ++ rest
 
--- the text begins with none of these words
-abbrev pub BeginsWithNone : List (List ℕ) → List ℕ → Type 0
-BeginsWithNone [] text = Unit {0}
-BeginsWithNone (word ∷ words) text = BeginsOtherThan word text × BeginsWithNone words text
-
 -- the text is that of an error packet with this message, which either end may send (gitprotocol-pack(5))
 abbrev pub IsErrorOf : List ℕ → List ℕ → Type 0
 IsErrorOf text message = text ≡ codes "ERR " ++ message

@@ -1,20 +1,16 @@
 //! The argument lines of requests, as in gitprotocol-v2(5).
-ghost use Rattle.std.specs.Prelude.{◌≡◌, ◌+◌, ◌*◌, IfErr, MatchBool, MatchOption, MatchResult, OnOk, length};
+ghost use Rattle.std.specs.Prelude.{◌≡◌, ◌+◌, ◌*◌, IfErr, MatchOption, MatchResult, OnOk, length};
 ghost use Rattle.git_names.specs.ObjectName.{IsNoObjectName, IsObjectName};
-ghost use Rattle.git_names.specs.RefName.{IsRefName};
 ghost use Rattle.git_names.specs.Steps.{TakesAtMost};
-ghost use Rattle.git_names.specs.declared.object_format.Format.{Format};
-ghost use Rattle.git_msg.specs.Arguments.{IsArgument, IsArgumentFault, IsDepth, IsKeptText, IsNoKeptText, IsNoNumberIn, IsNumberIn};
-ghost use Rattle.git_msg.specs.Arguments.{IsNoValueOf, IsTextFault, IsTime, ReadsAs};
-ghost use Rattle.git_msg.specs.Arguments.{command_with as command_of, is_offered as offers, name_of, shown};
-ghost use Rattle.git_msg.specs.Arguments.{HasName, IsValue, IsValueFault};
+ghost use Rattle.git_msg.specs.Arguments.{IsArgument, IsArgumentFault, IsNoValue, IsTextFault, IsValue, IsValueFault, ReadsAs, StatesValue};
+ghost use Rattle.git_msg.specs.Arguments.{is_offered as offers, name_of, refusal_of, shown, word_of};
 
 use crate::flags::Flag;
-use crate::numbers::read_number;
 use crate::offers::Offer;
 use crate::parts::check_id;
-use crate::texts::{after, is_word};
-use git_names::{Format, Oid, RefName, Steps};
+use crate::texts::is_word;
+use crate::words::{NumberWord, ObjectWord, TextWord, Word};
+use git_names::{Format, Oid, Steps};
 use git_pkt::Kind;
 
 /// A command of a request, as in gitprotocol-v2(5).
@@ -33,61 +29,14 @@ pub enum Command {
 pub enum Argument<'a> {
     /// A word alone: each [`Flag`] states what it requests.
     Flag(Flag),
-    /// `ref-prefix`: show references whose name begins with this text, of at most 32,000 bytes.
-    RefPrefix(&'a [u8]),
-    /// `want`: send this object.
-    Want(Oid),
-    /// `have`: the client has this object.
-    Have(Oid),
-    /// `filter`: leave out the objects that this filter-spec excludes. Its text has 1 to 32,000 bytes.
-    Filter(&'a [u8]),
-    /// `shallow`: the client has this commit without its parents.
-    Shallow(Oid),
-    /// `deepen`: cut the history off at this depth, of 1 to 2,147,483,647 commits.
-    Deepen(u64),
-    /// `deepen-since`: cut the history off at this time, in seconds since 1970, at most 9,223,372,036,854,775,807.
-    DeepenSince(u64),
-    /// `deepen-not`: leave out what this revision reaches. Its text has 1 to 32,000 bytes.
-    DeepenNot(&'a [u8]),
-    /// `want-ref`: send the object of the reference of this name, whose text is a [`git_names::RefName`]. The text is
-    /// borrowed, since the check has no rule yet for an enum that has an object name by value and a struct that borrows.
-    WantRef(&'a [u8]),
-    /// `oid`: answer for this object.
-    ObjectId(Oid),
+    /// An object name after its word.
+    Object(ObjectWord, Oid),
+    /// A text after its word. It is borrowed also where it is a reference name, since the check has no rule yet for an enum that
+    /// has an object name by value and a struct that borrows.
+    Text(TextWord, &'a [u8]),
+    /// A number after its word.
+    Number(NumberWord, u64),
 }
-
-// The same argument, taken apart and put together: the check has no rule yet for lending or copying a whole parameter that
-// may have both a borrowed text and an object name.
-macro_rules! put_together {
-    ($argument:ident) => {
-        match $argument {
-            Argument::Flag(flag) => Argument::Flag(flag),
-            Argument::RefPrefix(prefix) => Argument::RefPrefix(prefix),
-            Argument::Want(id) => Argument::Want(id),
-            Argument::Have(id) => Argument::Have(id),
-            Argument::Filter(spec) => Argument::Filter(spec),
-            Argument::Shallow(id) => Argument::Shallow(id),
-            Argument::Deepen(depth) => Argument::Deepen(depth),
-            Argument::DeepenSince(time) => Argument::DeepenSince(time),
-            Argument::DeepenNot(revision) => Argument::DeepenNot(revision),
-            Argument::WantRef(name) => Argument::WantRef(name),
-            Argument::ObjectId(id) => Argument::ObjectId(id),
-        }
-    };
-}
-
-pub(crate) use put_together;
-
-/// The maximum length of a text that is kept.
-pub(crate) const MOST_TEXT: usize = 32_000;
-
-// The maximum length of a word at the head of an argument.
-const LONGEST_WORD: usize = 15;
-
-// The greatest depth, and the latest time.
-const MOST_DEPTH: u64 = 2_147_483_647;
-
-const MOST_TIME: u64 = 9_223_372_036_854_775_807;
 
 impl Command {
     /// The command's key, as it stands after `command=`.
@@ -134,7 +83,7 @@ pub fn read_argument<'a>(
 {
     match read_text(command, offer.format, text, steps) {
         Ok(argument) => {
-            if !is_offered(offer, &argument) {
+            if !word_at(&argument).is_offered(offer) {
                 return Err(Kind::NotAdvertised);
             }
             Ok(argument)
@@ -153,161 +102,33 @@ fn read_text<'a>(
     ensures argument { MatchResult result (λ argument. IsArgument command format text.now (shown argument)) (IsTextFault command format text.now) }
     ensures cost { TakesAtMost (40 * (length text.now + 1)) steps.old steps.new }
 {
-    // The command's flags.
-    steps.tick(command.flags().len() * (text.len().min(LONGEST_WORD) + 1));
-    if let Some(flag) = command.flag(text) {
-        return Ok(Argument::Flag(flag));
-    }
-    match command {
-        Command::LsRefs => read_ls_refs_value(format, text, steps),
-        Command::Fetch => read_fetch_value(format, text, steps),
-        Command::ObjectInfo => read_object_info_value(format, text, steps),
+    match command.split(text, steps) {
+        Some((word, value)) => read_value(word, format, value, steps),
+        None => Err(Kind::UnknownArgument),
     }
 }
 
-// Reads an argument of `ls-refs` that is a word and a value.
-fn read_ls_refs_value<'a>(
+// Reads the value after the word.
+fn read_value<'a>(
+    word: Word,
     format: Format,
-    text: &'a [u8],
+    value: &'a [u8],
     steps: &mut Steps,
 ) -> Result<Argument<'a>, Kind>
-    ensures argument { MatchResult result (λ argument. IsArgument Command.LsRefs format text.now (shown argument))
-        (IsNoValueOf Command.LsRefs format text.now) }
-    ensures cost { TakesAtMost (24 * (length text.now + 1)) steps.old steps.new }
+    ensures argument { MatchResult result (λ argument. (word_of (shown argument) ≡ word) × StatesValue format value.now (shown argument))
+        (λ kind. IsNoValue word format value.now × (kind ≡ refusal_of word)) }
+    ensures cost { TakesAtMost (16 * (length value.now + 1)) steps.old steps.new }
 {
-    // One word.
-    steps.tick(text.len().min(LONGEST_WORD) + 1);
-    let Some(prefix) = after(text, b"ref-prefix ") else {
-        return Err(Kind::UnknownArgument);
-    };
-    if prefix.len() > MOST_TEXT {
-        return Err(Kind::BadLine);
-    }
-    Ok(Argument::RefPrefix(prefix))
-}
-
-// Reads an argument of `fetch` that is a word and a value.
-fn read_fetch_value<'a>(
-    format: Format,
-    text: &'a [u8],
-    steps: &mut Steps,
-) -> Result<Argument<'a>, Kind>
-    ensures argument { MatchResult result (λ argument. IsArgument Command.Fetch format text.now (shown argument))
-        (IsNoValueOf Command.Fetch format text.now) }
-    ensures cost { TakesAtMost (24 * (length text.now + 1)) steps.old steps.new }
-{
-    // Eight words.
-    steps.tick(8 * (text.len().min(LONGEST_WORD) + 1));
-    if let Some(name) = after(text, b"want ") {
-        let id = read_id(format, name, steps)?;
-        return Ok(Argument::Want(id));
-    }
-    if let Some(name) = after(text, b"have ") {
-        let id = read_id(format, name, steps)?;
-        return Ok(Argument::Have(id));
-    }
-    if let Some(name) = after(text, b"shallow ") {
-        let id = read_id(format, name, steps)?;
-        return Ok(Argument::Shallow(id));
-    }
-    if let Some(digits) = after(text, b"deepen ") {
-        let depth = read_depth(digits, steps)?;
-        return Ok(Argument::Deepen(depth));
-    }
-    if let Some(digits) = after(text, b"deepen-since ") {
-        let time = read_time(digits, steps)?;
-        return Ok(Argument::DeepenSince(time));
-    }
-    if let Some(revision) = after(text, b"deepen-not ") {
-        if !is_kept_text(revision) {
-            return Err(Kind::BadLine);
+    match word {
+        Word::Flag(flag) => Ok(Argument::Flag(flag)),
+        Word::Object(word) => Ok(Argument::Object(word, read_id(format, value, steps)?)),
+        Word::Text(word) => {
+            if !word.allows(value, steps) {
+                return Err(word.refusal());
+            }
+            Ok(Argument::Text(word, value))
         }
-        return Ok(Argument::DeepenNot(revision));
-    }
-    if let Some(name) = after(text, b"want-ref ") {
-        if !is_ref_name(name, steps) {
-            return Err(Kind::BadRefName);
-        }
-        return Ok(Argument::WantRef(name));
-    }
-    if let Some(spec) = after(text, b"filter ") {
-        if !is_kept_text(spec) {
-            return Err(Kind::BadLine);
-        }
-        return Ok(Argument::Filter(spec));
-    }
-    Err(Kind::UnknownArgument)
-}
-
-// Reads an argument of `object-info` that is a word and a value.
-fn read_object_info_value<'a>(
-    format: Format,
-    text: &'a [u8],
-    steps: &mut Steps,
-) -> Result<Argument<'a>, Kind>
-    ensures argument { MatchResult result (λ argument. IsArgument Command.ObjectInfo format text.now (shown argument))
-        (IsNoValueOf Command.ObjectInfo format text.now) }
-    ensures cost { TakesAtMost (24 * (length text.now + 1)) steps.old steps.new }
-{
-    // One word.
-    steps.tick(text.len().min(LONGEST_WORD) + 1);
-    let Some(name) = after(text, b"oid ") else {
-        return Err(Kind::UnknownArgument);
-    };
-    let id = read_id(format, name, steps)?;
-    Ok(Argument::ObjectId(id))
-}
-
-/// Whether the argument is allowed in a request of this command and format.
-pub(crate) fn check_value(
-    command: Command,
-    format: Format,
-    argument: &Argument<'_>,
-) -> Result<(), Kind>
-    requires { HasName (shown argument.now) }
-    ensures ok { OnOk result (IsValue command format (shown argument.now)) }
-    ensures err { IfErr result (IsValueFault command format (shown argument.now)) }
-{
-    if command_with(argument) != command {
-        return Err(Kind::UnknownArgument);
-    }
-    match argument {
-        Argument::Want(id) | Argument::Have(id) | Argument::Shallow(id) | Argument::ObjectId(id) =>
-            check_id(format, id),
-        Argument::Deepen(depth) if !is_depth(*depth) => Err(Kind::BadNumber),
-        Argument::DeepenSince(time) if !is_time(*time) => Err(Kind::BadNumber),
-        Argument::RefPrefix(prefix) if prefix.len() > MOST_TEXT => Err(Kind::BadLine),
-        Argument::DeepenNot(revision) if !is_kept_text(revision) => Err(Kind::BadLine),
-        Argument::Filter(spec) if !is_kept_text(spec) => Err(Kind::BadLine),
-        _ => Ok(()),
-    }
-}
-
-// The command that has the argument.
-fn command_with(argument: &Argument<'_>) -> Command
-    ensures { result ≡ command_of (shown argument.now) }
-{
-    match argument {
-        Argument::Flag(flag) => flag.command(),
-        Argument::RefPrefix(_) => Command::LsRefs,
-        Argument::ObjectId(_) => Command::ObjectInfo,
-        _ => Command::Fetch,
-    }
-}
-
-/// Whether the feature that the argument needs was advertised.
-pub(crate) fn is_offered(offer: &Offer, argument: &Argument<'_>) -> bool
-    ensures { result ≡ offers offer.now (shown argument.now) }
-{
-    match argument {
-        Argument::Flag(flag) => flag.is_offered(offer),
-        Argument::Shallow(_) => offer.shallow,
-        Argument::Deepen(_) => offer.shallow,
-        Argument::DeepenSince(_) => offer.shallow,
-        Argument::DeepenNot(_) => offer.shallow,
-        Argument::WantRef(_) => offer.ref_in_want,
-        Argument::Filter(_) => offer.filter,
-        _ => true,
+        Word::Number(word) => Ok(Argument::Number(word, word.read(value, steps)?)),
     }
 }
 
@@ -321,55 +142,44 @@ fn read_id(format: Format, name: &[u8], steps: &mut Steps) -> Result<Oid, Kind>
     }
 }
 
-fn read_depth(digits: &[u8], steps: &mut Steps) -> Result<u64, Kind>
-    ensures depth { MatchResult result (IsNumberIn IsDepth digits.now)
-        (λ kind. IsNoNumberIn IsDepth digits.now × (kind ≡ Kind.BadNumber)) }
-    ensures cost { TakesAtMost (length digits.now) steps.old steps.new }
+/// The word at the head of the argument's line.
+pub fn word_at(argument: &Argument<'_>) -> Word
+    ensures { result ≡ word_of (shown argument.now) }
 {
-    steps.tick(digits.len());
-    match read_number(digits) {
-        Some(depth) if is_depth(depth) => Ok(depth),
-        _ => Err(Kind::BadNumber),
+    match argument {
+        Argument::Flag(flag) => Word::Flag(*flag),
+        Argument::Object(word, _) => Word::Object(*word),
+        Argument::Text(word, _) => Word::Text(*word),
+        Argument::Number(word, _) => Word::Number(*word),
     }
 }
 
-fn read_time(digits: &[u8], steps: &mut Steps) -> Result<u64, Kind>
-    ensures time { MatchResult result (IsNumberIn IsTime digits.now)
-        (λ kind. IsNoNumberIn IsTime digits.now × (kind ≡ Kind.BadNumber)) }
-    ensures cost { TakesAtMost (length digits.now) steps.old steps.new }
+/// Whether the argument is allowed in a request of this command and format.
+pub(crate) fn check_value(
+    command: Command,
+    format: Format,
+    argument: &Argument<'_>,
+) -> Result<(), Kind>
+    ensures ok { OnOk result (IsValue command format (shown argument.now)) }
+    ensures err { IfErr result (IsValueFault command format (shown argument.now)) }
 {
-    steps.tick(digits.len());
-    match read_number(digits) {
-        Some(time) if is_time(time) => Ok(time),
-        _ => Err(Kind::BadNumber),
+    if word_at(argument).command() != command {
+        return Err(Kind::UnknownArgument);
     }
-}
-
-/// Whether a history may be cut off at this depth.
-pub(crate) fn is_depth(depth: u64) -> bool
-    ensures { MatchBool result (IsDepth depth) (¬ IsDepth depth) }
-{
-    1 <= depth && depth <= MOST_DEPTH
-}
-
-/// Whether a history may be cut off at this time.
-pub(crate) fn is_time(time: u64) -> bool
-    ensures { MatchBool result (IsTime time) (¬ IsTime time) }
-{
-    time <= MOST_TIME
-}
-
-/// Whether the text is a reference name.
-pub(crate) fn is_ref_name(text: &[u8], steps: &mut Steps) -> bool
-    ensures name { MatchBool result (IsRefName text.now) (¬ IsRefName text.now) }
-    ensures cost { TakesAtMost (16 * (length text.now + 1)) steps.old steps.new }
-{
-    RefName::read(text, steps).is_ok()
-}
-
-/// Whether a text that is not parsed may be kept: it has 1 to 32,000 bytes.
-pub(crate) fn is_kept_text(text: &[u8]) -> bool
-    ensures { MatchBool result (IsKeptText text.now) (IsNoKeptText text.now) }
-{
-    !text.is_empty() && text.len() <= MOST_TEXT
+    match argument {
+        Argument::Flag(_) => Ok(()),
+        Argument::Object(_, id) => check_id(format, id),
+        Argument::Text(word, text) => {
+            if !word.allows(text, &mut Steps::new()) {
+                return Err(word.refusal());
+            }
+            Ok(())
+        }
+        Argument::Number(word, number) => {
+            if !word.allows(*number) {
+                return Err(Kind::BadNumber);
+            }
+            Ok(())
+        }
+    }
 }

@@ -1,17 +1,20 @@
 //! Flags: the arguments that are a word alone, and the set of them that a request has.
-ghost use Rattle.std.specs.Prelude.{◌≡◌, ◌<◌, ◌≤◌, ◌==◌, ◌||◌, ℕ, List, Some, MatchOption, MatchResult, false, get_or, length, slice_get};
-ghost use Rattle.git_msg.specs.Arguments.{Arg, alone, of_flag};
-ghost use Rattle.git_msg.specs.Asked.{flag_arguments, joined};
-ghost use Rattle.git_msg.specs.Flags.{IsNoFlagOf, flag_row, flags_of, is_held, place_of};
+ghost use Rattle.std.specs.Prelude.{◌≡◌, ◌<◌, ◌≤◌, ◌==◌, ◌||◌, ℕ, false, get_or, length};
+ghost use Rattle.git_msg.specs.Flags.{flag_row};
+ghost use Rattle.git_msg.specs.Machine.ArgumentLists.{is_held, place_of};
 
 use crate::arguments::Command;
 use crate::offers::Offer;
-use crate::parts::past_flag;
-use crate::texts::is_word;
 
 /// An argument that is a word alone.
 #[derive(Clone, Copy, Debug, PartialEq, Eq, Hash)]
 pub enum Flag {
+    /// `peel` of `ls-refs`: send the object that an annotated tag peels to.
+    Peel,
+    /// `symrefs` of `ls-refs`: send what symbolic references point to.
+    Symrefs,
+    /// `unborn` of `ls-refs`: send what `HEAD` points to if that has no commit yet.
+    Unborn,
     /// `thin-pack` of `fetch`: the pack may have deltas against objects that are not in it.
     ThinPack,
     /// `no-progress` of `fetch`: send no progress beside the pack.
@@ -26,12 +29,6 @@ pub enum Flag {
     DeepenRelative,
     /// `done` of `fetch`: do not negotiate any further, and send the pack.
     Done,
-    /// `peel` of `ls-refs`: send the object that an annotated tag peels to.
-    Peel,
-    /// `symrefs` of `ls-refs`: send what symbolic references point to.
-    Symrefs,
-    /// `unborn` of `ls-refs`: send what `HEAD` points to if that has no commit yet.
-    Unborn,
     /// `size` of `object-info`: send how many bytes the objects have.
     Size,
 }
@@ -39,37 +36,16 @@ pub enum Flag {
 // At least as many places as there are flags.
 const PLACES: usize = 16;
 
-/// The flags of `fetch` that are written before its other arguments, in order.
-pub(crate) const PACK_FLAGS: &[Flag] = &[
-    Flag::ThinPack,
-    Flag::NoProgress,
-    Flag::IncludeTag,
-    Flag::OfsDelta,
-    Flag::WaitForDone,
-];
-
-const FETCH_FLAGS: &[Flag] = &[
-    Flag::ThinPack,
-    Flag::NoProgress,
-    Flag::IncludeTag,
-    Flag::OfsDelta,
-    Flag::WaitForDone,
-    Flag::DeepenRelative,
-    Flag::Done,
-];
-
-/// The flags of `ls-refs`, in the order in which they are written.
-pub(crate) const LS_REFS_FLAGS: &[Flag] = &[Flag::Peel, Flag::Symrefs, Flag::Unborn];
-
-/// The flags of `object-info`.
-pub(crate) const OBJECT_INFO_FLAGS: &[Flag] = &[Flag::Size];
-
 impl Flag {
     /// The flag's text, as it is written.
     pub fn word(self) -> &'static [u8]
-        ensures { result.now ≡ (flag_row self).text }
+        ensures value { result.now ≡ (flag_row self).keyword }
+        ensures short { length result.now ≤ 15 }
     {
         match self {
+            Flag::Peel => b"peel",
+            Flag::Symrefs => b"symrefs",
+            Flag::Unborn => b"unborn",
             Flag::ThinPack => b"thin-pack",
             Flag::NoProgress => b"no-progress",
             Flag::IncludeTag => b"include-tag",
@@ -77,9 +53,6 @@ impl Flag {
             Flag::WaitForDone => b"wait-for-done",
             Flag::DeepenRelative => b"deepen-relative",
             Flag::Done => b"done",
-            Flag::Peel => b"peel",
-            Flag::Symrefs => b"symrefs",
-            Flag::Unborn => b"unborn",
             Flag::Size => b"size",
         }
     }
@@ -100,46 +73,19 @@ impl Flag {
         ensures { result ≡ (flag_row self).offered offer.now }
     {
         match self {
+            Flag::Unborn => offer.unborn,
             Flag::WaitForDone => offer.wait_for_done,
             Flag::DeepenRelative => offer.shallow,
-            Flag::Unborn => offer.unborn,
             _ => true,
         }
     }
 
-    // The flag's index in `all_flags`: the variants are in that order.
+    // The flag's index among all flags: the variants are in the order in which they are written.
     fn place(self) -> usize
         ensures value { result ≡ place_of self }
         ensures below { result < PLACES }
     {
         self as usize
-    }
-}
-
-impl Command {
-    /// The flags of the command, in the order in which they are written.
-    pub fn flags(self) -> &'static [Flag]
-        ensures flags { result.now ≡ flags_of self }
-        ensures few { length result.now ≤ 16 }
-    {
-        match self {
-            Command::LsRefs => LS_REFS_FLAGS,
-            Command::Fetch => FETCH_FLAGS,
-            Command::ObjectInfo => OBJECT_INFO_FLAGS,
-        }
-    }
-
-    /// The flag of the command that is this word.
-    pub(crate) fn flag(self, text: &[u8]) -> Option<Flag>
-        ensures { MatchOption result (IsNoFlagOf self text.now)
-            (λ flag. ((flag_row flag).command ≡ self) × (text.now ≡ (flag_row flag).text)) }
-    {
-        for flag in self.flags() {
-            if is_word(text, flag.word()) {
-                return Some(*flag);
-            }
-        }
-        None
     }
 }
 
@@ -168,21 +114,5 @@ impl FlagSet {
         ensures { (place : ℕ) → get_or self.new.set place false ≡ ((place == place_of flag) || get_or self.old.set place false) }
     {
         self.set[flag.place()] = true;
-    }
-
-    /// The flag at index `i` of those of this order that are set; otherwise the index after them.
-    pub(crate) fn at(&self, order: &[Flag], i: usize) -> Result<Flag, usize>
-        ensures { MatchResult result
-            (λ flag. (others : List Arg) → slice_get (joined (flag_arguments (is_held self.now) order.now) others) i ≡ Some (alone (of_flag flag)))
-            (λ next. (others : List Arg) → slice_get (joined (flag_arguments (is_held self.now) order.now) others) i ≡ slice_get others next) }
-    {
-        let mut left = i;
-        for flag in order {
-            match past_flag(self.has(*flag), left) {
-                Some(next) => left = next,
-                None => return Ok(*flag),
-            }
-        }
-        Err(left)
     }
 }

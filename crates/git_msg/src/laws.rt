@@ -23,12 +23,14 @@ ghost use Rattle.git_msg.specs.Lines.{Line, IsFormatMeant, IsLine, HasFault, end
 ghost use Rattle.git_msg.specs.References.{Ref, IsReferenceFault, IsReferenceLine, IsWritable, reference_text};
 ghost use Rattle.git_msg.specs.Requests.{Asks, FirstFault};
 ghost use Rattle.git_msg.specs.Machine.HeldTexts.{texts_stored, texts_stored_by_fields};
-ghost use Rattle.git_msg.specs.Machine.Insides.{fetch_stored, fetch_stored_by_fields, ls_refs_stored, ls_refs_stored_by_fields};
-ghost use Rattle.git_msg.specs.Machine.Insides.{object_info_stored, object_info_stored_by_fields};
+ghost use Rattle.git_msg.specs.Machine.ArgumentLists.{stored, stored_by_fields as lists_stored_by_fields};
+ghost use Rattle.git_msg.specs.Machine.Listings.{fetch_stored_by_fields, kept_stored_by_fields, ls_refs_stored_by_fields, object_info_stored_by_fields};
 ghost use Rattle.git_msg.specs.Machine.RequestReader.{kept_so_far, limit_in, stored_by_fields, stored_so_far};
 ghost use Rattle.git_msg.specs.declared.fetch.Fetch.TheInside.{Inside as FetchInside};
 ghost use Rattle.git_msg.specs.declared.ls_refs.LsRefs.TheInside.{Inside as LsRefsInside};
 ghost use Rattle.git_msg.specs.declared.object_info.ObjectInfo.TheInside.{Inside as ObjectInfoInside};
+ghost use Rattle.git_msg.specs.declared.kept.KeptArguments.TheInside.{Inside as KeptInside};
+ghost use Rattle.git_msg.specs.declared.lists.ArgumentLists.{ArgumentLists};
 ghost use Rattle.git_msg.specs.declared.parts.Texts.{Texts};
 ghost use Rattle.git_msg.specs.declared.limits.Budget.{Budget};
 ghost use Rattle.git_msg.specs.declared.listing.Listing.TheInside.{Inside as ListingInside};
@@ -249,7 +251,6 @@ pub fn usual_limit()
 
 /// If arguments were added one after the other to an empty request, it asks for what the list of them contains, and has kept
 /// as many bytes as the texts of their lines have.
-#[tactic(auto, using(crate::proofs::AddedArguments::added_asked, crate::proofs::AddedArguments::added_kept, crate::proofs::AddedArguments::added_stored))]
 pub fn added_arguments_are_asked_for<A: Memory + Copy>()
     ensures asked { (command : Command) (format : Format) (limit : ℕ) (args : List Arg) (empty request : Request A)
         → IsEmpty command format limit empty → AddsAll empty args request → asked_of request ≡ asked_by command args }
@@ -269,9 +270,11 @@ pub fn additions_follow_one_another<A: Memory + Copy>()
 /// The bytes that are counted for each part that stores bytes are those of its fields. A new field has to be named here.
 pub fn all_fields_are_counted<A: Memory + Copy>()
     ensures texts { (texts : Texts A) → texts_stored_by_fields texts ≡ texts_stored texts }
-    ensures ls_refs { (request : LsRefsInside A) → ls_refs_stored_by_fields request ≡ ls_refs_stored request }
-    ensures fetch { (request : FetchInside A) → fetch_stored_by_fields request ≡ fetch_stored request }
-    ensures object_info { (request : ObjectInfoInside A) → object_info_stored_by_fields request ≡ object_info_stored request }
+    ensures lists { (lists : ArgumentLists A) → lists_stored_by_fields lists ≡ stored lists }
+    ensures arguments { (arguments : KeptInside A) → kept_stored_by_fields arguments ≡ stored arguments.lists }
+    ensures ls_refs { (request : LsRefsInside A) → ls_refs_stored_by_fields request ≡ request.arguments.stored }
+    ensures fetch { (request : FetchInside A) → fetch_stored_by_fields request ≡ request.arguments.stored }
+    ensures object_info { (request : ObjectInfoInside A) → object_info_stored_by_fields request ≡ request.arguments.stored }
     ensures listing { (listing : ListingInside A) → listing_stored_by_fields listing ≡ listing_stored listing }
     ensures budget { (budget : Budget) → budget_stored_by_fields budget ≡ 0 }
     ensures reader { (reader : RequestReader A) → stored_by_fields reader ≡ stored_so_far reader }
@@ -293,5 +296,5 @@ pub fn request_stream_holds_within_its_limit<A: Memory + Copy>()
 /// The arguments of a request, in the order in which they are written, ask for exactly what the request asks for.
 #[tactic(auto, using(crate::proofs::ArgumentsInOrder::arguments_in_order))]
 pub fn arguments_in_order()
-    ensures { (asked : Asked) → asked_by (command_asked asked) (arguments_in asked) ≡ asked }
+    ensures { (command : Command) (args : List Arg) → asked_by command (arguments_in (asked_by command args)) ≡ asked_by command args }
 {}

@@ -3,7 +3,9 @@ ghost use Rattle.std.specs.Prelude.{◌≡◌, false, slice_get};
 ghost use Rattle.std.specs.Option.{option_copied};
 
 use crate::flags::Flag;
+use crate::kept::KeptArguments;
 use crate::ls_refs::LsRefs;
+use crate::words::TextWord;
 use std::alloc::Allocator;
 use std::marker::Model;
 
@@ -16,21 +18,23 @@ pub struct Listing<A: Allocator + Copy> {
 }
 
 impl<A: Allocator + Copy> Model for Listing<A> {
-    ghost use Rattle.git_msg.specs.Asked.{LsRefsAsked};
+    ghost use Rattle.std.specs.Prelude.{List};
+    ghost use Rattle.git_msg.specs.Arguments.{Arg};
+    ghost use Rattle.git_msg.specs.Asked.{ref_prefixes_in};
     ghost use Rattle.git_msg.specs.Kept.{Kept};
     ghost use Rattle.git_msg.specs.Prefixes.{IsOrdered};
 
-    ghost Value = { Kept LsRefsAsked };
+    ghost Value = { Kept (List Arg) };
 
     ghost view = { λ l. l.request };
 
     ghost use Rattle.std.specs.Prelude.{◌≡◌, true};
 
-    ghost invariant = { λ l. l.is_ordered ≡ true → IsOrdered l.request.asked.ref_prefixes };
+    ghost invariant = { λ l. l.is_ordered ≡ true → IsOrdered (ref_prefixes_in l.request.asked) };
 }
 
 impl<A: Allocator + Copy> Listing<A> {
-    ghost use Rattle.git_msg.specs.Asked.{has_flag, ls_refs};
+    ghost use Rattle.git_msg.specs.Asked.{flag_among, peel_in, ref_prefixes_in, symrefs_in, unborn_in};
     ghost use Rattle.git_msg.specs.Prefixes.{IsOrdered, OrdersPrefixes, SplitsAt, is_shown};
 
     /// Wraps the request, with its prefixes in the order in which they came.
@@ -43,10 +47,17 @@ impl<A: Allocator + Copy> Listing<A> {
         }
     }
 
+    /// Its arguments.
+    pub fn arguments(&self) -> &KeptArguments<A>
+        ensures { result.now.asked ≡ self.now.asked }
+    {
+        self.request.arguments()
+    }
+
     /// Sorts the prefixes in place, and drops those that begin with another one: the same names begin with one of the rest.
     /// A second call does nothing.
     pub fn put_in_order(&mut self)
-        ensures ordered { IsOrdered self.new.asked.ref_prefixes }
+        ensures ordered { IsOrdered (ref_prefixes_in self.new.asked) }
         ensures same { OrdersPrefixes self.old self.new }
     {
         if self.is_ordered {
@@ -58,53 +69,55 @@ impl<A: Allocator + Copy> Listing<A> {
 
     /// Whether the request has the flag. It has no flag of another command.
     pub fn has(&self, flag: Flag) -> bool
-        ensures { result ≡ has_flag flag (ls_refs self.now.asked) }
+        ensures { result ≡ flag_among self.now.asked flag }
     {
         self.request.has(flag)
     }
 
     /// Whether symbolic references are to be shown with what they point to.
     pub fn symrefs(&self) -> bool
-        ensures { result ≡ self.now.asked.symrefs }
+        ensures { result ≡ symrefs_in self.now.asked }
     {
         self.request.symrefs()
     }
 
     /// Whether annotated tags are to be shown with what they peel to.
     pub fn peel(&self) -> bool
-        ensures { result ≡ self.now.asked.peel }
+        ensures { result ≡ peel_in self.now.asked }
     {
         self.request.peel()
     }
 
     /// Whether to show, too, what `HEAD` points to if that has no commit yet.
     pub fn unborn(&self) -> bool
-        ensures { result ≡ self.now.asked.unborn }
+        ensures { result ≡ unborn_in self.now.asked }
     {
         self.request.unborn()
     }
 
     /// The prefix at index `i`.
     pub fn ref_prefix(&self, i: usize) -> Option<&[u8]>
-        ensures { option_copied result ≡ slice_get self.now.asked.ref_prefixes i }
+        ensures { option_copied result ≡ slice_get (ref_prefixes_in self.now.asked) i }
     {
         self.request.ref_prefix(i)
     }
 
     /// How many of the prefixes do not come after the name.
     pub fn split(&self, name: &[u8]) -> usize
-        requires { IsOrdered self.now.asked.ref_prefixes }
-        ensures { SplitsAt self.now.asked.ref_prefixes name.now result }
+        requires { IsOrdered (ref_prefixes_in self.now.asked) }
+        ensures { SplitsAt (ref_prefixes_in self.now.asked) name.now result }
     {
-        self.request.split(name)
+        self.arguments().texts().split(TextWord::RefPrefix, name)
     }
 
     /// Whether a name is shown, if this many of the prefixes do not come after it.
     pub fn shows_at(&self, split: usize, name: &[u8]) -> bool
-        requires ordered { IsOrdered self.now.asked.ref_prefixes }
-        requires split { SplitsAt self.now.asked.ref_prefixes name.now split }
-        ensures { result ≡ is_shown self.now.asked.ref_prefixes name.now }
+        requires ordered { IsOrdered (ref_prefixes_in self.now.asked) }
+        requires split { SplitsAt (ref_prefixes_in self.now.asked) name.now split }
+        ensures { result ≡ is_shown (ref_prefixes_in self.now.asked) name.now }
     {
-        self.request.shows_at(split, name)
+        self.arguments()
+            .texts()
+            .shows_at(TextWord::RefPrefix, split, name)
     }
 }

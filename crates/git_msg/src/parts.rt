@@ -1,143 +1,200 @@
 //! The parts of kept requests: texts, and the indexes of their arguments.
-ghost use Rattle.std.specs.Prelude.{◌≡◌, ◌≢◌, ◌+◌, ◌*◌, ◌^◌, ◌<◌, ◌≤◌, [], ◌∷◌, ◌++◌, ℕ, List, Some, None, OnOk, OnSome, OnErr, IfErr, MatchOption};
-ghost use Rattle.std.specs.Prelude.{MatchResult};
+ghost use Rattle.std.specs.Prelude.{◌≡◌, ◌≢◌, ◌+◌, ◌*◌, ◌^◌, ◌<◌, ◌≤◌, ◌==◌, [], ◌∷◌, ◌++◌, ℕ, OnOk, OnSome, OnErr, IfErr, MatchResult};
 ghost use Rattle.std.specs.Prelude.{true, false, length, map, slice_get, slice_index, All};
 ghost use Rattle.std.specs.Option.{option_copied};
-ghost use Rattle.git_msg.specs.Arguments.{Arg, IsNameIn, Word, alone, of_flag, with_id, with_number, with_text};
-ghost use Rattle.git_msg.specs.declared.flags.Flag.{Flag};
-ghost use Rattle.git_msg.specs.Asked.{where_asked, where_given};
+ghost use Rattle.git_msg.specs.Arguments.{IsNameIn};
+ghost use Rattle.git_msg.specs.declared.words.TextWord.{TextWord};
 ghost use Rattle.std.proofs.Props.{props};
 ghost use Rattle.std.specs.List.{dedup};
 ghost use Rattle.std.specs.Ordering.{is_lt};
 ghost use Rattle.std.specs.List.Sorted.{IsPartitionedBy, IsPartitionPoint, IsPermutation, IsSortedBy};
-ghost use Rattle.git_msg.specs.Memory.{HasRefused};
-ghost use Rattle.git_msg.specs.Machine.TextPools.{IsEnd, text_at};
-ghost use Rattle.git_msg.specs.Prefixes.{IsOrdered, Prunes, ShowAlike, SplitsAt, goes_before, begins, is_shown, text_cmp};
+ghost use Rattle.git_msg.specs.Memory.{HasRefused, bytes_each};
+ghost use Rattle.git_msg.specs.Machine.TextPools.{IsEnd, pooled, text_at, text_place, where_same};
+ghost use Rattle.git_msg.specs.Machine.PlacedLists.{AreEnds};
+ghost use Rattle.git_msg.specs.Prefixes.{IsOrdered, PutsInOrder, SplitsAt, goes_before, begins, is_shown, text_cmp};
 
 use crate::memory::Memory;
+use crate::words::TextWord;
 use git_names::{Format, Oid};
 use git_pkt::Kind;
-use std::alloc::{AllocError, Allocator};
+use std::alloc::Allocator;
 use std::cmp::Ordering;
 
-/// Byte strings in one vector, each followed by its length in two bytes, and the list of the places where they end. So a
-/// text is found from its end alone, and the ends may be in any order.
+/// Four lists, each at its place. They are fields: an array of them would have a size that depends on the allocator.
+#[derive(Drop)]
+pub(crate) struct Lists<X: Copy, A: Allocator + Copy> {
+    first: Vec<X, A>,
+    second: Vec<X, A>,
+    third: Vec<X, A>,
+    fourth: Vec<X, A>,
+}
+
+impl<X: Copy, A: Allocator + Copy> Lists<X, A> {
+    ghost use Rattle.git_msg.specs.Machine.PlacedLists.{items_at, items_in};
+
+    pub(crate) fn new(alloc: A) -> Lists<X, A>
+        ensures { items_in result ≡ 0 }
+    {
+        Lists {
+            first: Vec::new(alloc),
+            second: Vec::new(alloc),
+            third: Vec::new(alloc),
+            fourth: Vec::new(alloc),
+        }
+    }
+
+    /// The list at this place.
+    pub(crate) fn at(&self, place: usize) -> &[X]
+        requires { place < 4 }
+        ensures { result.now ≡ items_at self.now place }
+    {
+        match place {
+            0 => &self.first,
+            1 => &self.second,
+            2 => &self.third,
+            _ => &self.fourth,
+        }
+    }
+}
+
+impl<X: Copy, A: Memory + Copy> Lists<X, A> {
+    ghost use Rattle.git_msg.specs.Machine.PlacedLists.{items_at, items_in};
+
+    /// Adds an item to the list at this place; `OutOfMemory` if there is no memory for it.
+    #[tactic(auto, using(crate::proofs::RefusedLists::refused_more))]
+    pub(crate) fn push(&mut self, place: usize, item: X) -> Result<(), Kind>
+        requires { place < 4 }
+        ensures ok { OnOk result ((of : ℕ) → items_at self.new of ≡ items_at self.old of ++ where_same of place item) }
+        ensures counted { OnOk result (items_in self.new ≡ items_in self.old + 1) }
+        ensures err { OnErr result (((of : ℕ) → items_at self.new of ≡ items_at self.old of) × (items_in self.new ≡ items_in self.old)) }
+        ensures kind { IfErr result (λ kind. kind ≡ Kind.OutOfMemory) }
+        ensures memory { OnErr result (HasRefused A.refuses ((items_in self.old + 1) * bytes_each X.row)) }
+    {
+        match place {
+            0 => keep_item(&mut self.first, item),
+            1 => keep_item(&mut self.second, item),
+            2 => keep_item(&mut self.third, item),
+            _ => keep_item(&mut self.fourth, item),
+        }
+    }
+}
+
+/// Texts in one vector, each followed by its length in two bytes, and for each word the places where its texts end. So a text is
+/// found from its end alone, and the ends may be in any order.
 #[derive(Drop)]
 pub(crate) struct Texts<A: Allocator + Copy> {
     bytes: Vec<u8, A>,
-    ends: Vec<u32, A>,
-    ghost sound: { All (IsEnd bytes.items) ends.items } by { Prim.hlevel props },
+    ends: Lists<u32, A>,
+    ghost sound: { AreEnds bytes.items ends } by { Prim.hlevel props },
 }
 
 impl<A: Allocator + Copy> Texts<A> {
     ghost use Rattle.git_msg.specs.Machine.HeldTexts.{texts_of, texts_stored};
 
     pub(crate) fn new(alloc: A) -> Texts<A>
-        ensures texts { texts_of result ≡ [] }
+        ensures texts { (word : TextWord) → texts_of result word ≡ [] }
         ensures stored { texts_stored result ≡ 0 }
     {
         Texts {
             bytes: Vec::new(alloc),
-            ends: Vec::new(alloc),
+            ends: Lists::new(alloc),
         }
     }
 
-    pub(crate) fn get(&self, i: usize) -> Option<&[u8]>
-        ensures value { option_copied result ≡ slice_get (texts_of self.now) i }
+    /// The text at index `i` of those after the word.
+    pub(crate) fn get(&self, word: TextWord, i: usize) -> Option<&[u8]>
+        ensures value { option_copied result ≡ slice_get (texts_of self.now word) i }
         ensures bound { OnSome result (i + 1 < 2 ^ 64) }
     {
-        match self.ends.get(i) {
+        match self.ends.at(word.place()).get(i) {
             Some(end) => Some(text(&self.bytes, *end)),
             None => None,
         }
     }
 
-    /// The text whose argument has this index, if one of these has it; otherwise the index after them.
-    pub(crate) fn at(&self, i: usize) -> Result<&[u8], usize>
-        ensures { MatchResult result
-            (λ text. (word : Word) (others : List Arg)
-            → slice_get (map (with_text word) (texts_of self.now) ++ others) i ≡ Some (with_text word text.now))
-            (λ next. (word : Word) (others : List Arg) → slice_get (map (with_text word) (texts_of self.now) ++ others) i ≡ slice_get others next) }
+    /// How many texts are after the word.
+    pub(crate) fn count(&self, word: TextWord) -> usize
+        ensures { result ≡ length (texts_of self.now word) }
     {
-        match self.get(i) {
-            Some(text) => Ok(text),
-            None => Err(i - self.len()),
-        }
+        self.ends.at(word.place()).len()
     }
 
-    pub(crate) fn len(&self) -> usize
-        ensures { result ≡ length (texts_of self.now) }
-    {
-        self.ends.len()
-    }
-
-    /// Sorts the texts, and drops those that begin with another one: the rest show the same names.
+    /// Sorts the prefixes, and drops those that begin with another one: the rest show the same names.
     pub(crate) fn put_in_order(&mut self)
-        ensures ordered { IsOrdered (texts_of self.new) }
-        ensures alike { ShowAlike (texts_of self.old) (texts_of self.new) }
-        ensures prunes { Prunes (texts_of self.old) (texts_of self.new) }
+        ensures order { PutsInOrder (texts_of self.old TextWord.RefPrefix) (texts_of self.new TextWord.RefPrefix) }
+        ensures others { (of : TextWord) → (text_place of == 0) ≡ false → texts_of self.new of ≡ texts_of self.old of }
         ensures stored { texts_stored self.new ≤ texts_stored self.old }
     {
-        order(&self.bytes, &mut self.ends);
+        order(&self.bytes, &mut self.ends.first);
     }
 
-    /// How many of the texts do not come after the name.
-    pub(crate) fn split(&self, name: &[u8]) -> usize
-        requires { IsOrdered (texts_of self.now) }
-        ensures { SplitsAt (texts_of self.now) name.now result }
+    /// How many of the texts after the word do not come after the name.
+    pub(crate) fn split(&self, word: TextWord, name: &[u8]) -> usize
+        requires { IsOrdered (texts_of self.now word) }
+        ensures { SplitsAt (texts_of self.now word) name.now result }
     {
-        split_at(&self.bytes, &self.ends, name)
+        split_at(&self.bytes, self.ends.at(word.place()), name)
     }
 
-    /// Whether a name begins with one of the texts, or there are none, if this many of them do not come after it.
-    pub(crate) fn shows_at(&self, split: usize, name: &[u8]) -> bool
-        requires ordered { IsOrdered (texts_of self.now) }
-        requires split { SplitsAt (texts_of self.now) name.now split }
-        ensures { result ≡ is_shown (texts_of self.now) name.now }
+    /// Whether a name begins with one of the texts after the word, or there are none, if this many of them do not come after it.
+    pub(crate) fn shows_at(&self, word: TextWord, split: usize, name: &[u8]) -> bool
+        requires ordered { IsOrdered (texts_of self.now word) }
+        requires split { SplitsAt (texts_of self.now word) name.now split }
+        ensures { result ≡ is_shown (texts_of self.now word) name.now }
     {
         if split == 0 {
-            return self.len() == 0;
+            return self.count(word) == 0;
         }
-        name.starts_with(text(&self.bytes, self.ends[split - 1]))
+        match self.get(word, split - 1) {
+            Some(prefix) => name.starts_with(prefix),
+            None => false,
+        }
     }
 }
 
 impl<A: Memory + Copy> Texts<A> {
     ghost use Rattle.git_msg.specs.Machine.HeldTexts.{texts_of, texts_stored};
 
-    /// Keeps a copy of the text after the others; `OutOfMemory` if there is no memory for it.
-    pub(crate) fn keep(&mut self, text: &[u8]) -> Result<(), Kind>
+    /// Keeps a copy of the text after the others of its word; `OutOfMemory` if there is no memory for it.
+    pub(crate) fn keep(&mut self, word: TextWord, text: &[u8]) -> Result<(), Kind>
         requires short { length text.now < 2 ^ 16 }
         requires fits { texts_stored self.old + length text.now < 2 ^ 32 }
-        ensures ok { OnOk result (texts_of self.new ≡ texts_of self.old ++ text.now ∷ []) }
+        ensures ok { OnOk result ((of : TextWord) → texts_of self.new of ≡ texts_of self.old of ++ where_same (text_place of) (text_place word) text.now) }
         ensures stored { OnOk result (texts_stored self.new ≡ texts_stored self.old + (length text.now + 6)) }
-        ensures err { OnErr result ((texts_of self.new ≡ texts_of self.old) × (texts_stored self.new ≡ texts_stored self.old)) }
+        ensures err { OnErr result (((of : TextWord) → texts_of self.new of ≡ texts_of self.old of) × (texts_stored self.new ≡ texts_stored self.old)) }
         ensures kind { IfErr result (λ kind. kind ≡ Kind.OutOfMemory) }
         ensures memory { OnErr result (HasRefused A.refuses (texts_stored self.old + (length text.now + 6))) }
     {
-        if self.push(text).is_err() {
-            return Err(Kind::OutOfMemory);
+        let start = self.bytes.len();
+        append(&mut self.bytes, text)?;
+        match self.ends.push(word.place(), (start + text.len()) as u32) {
+            Ok(()) => Ok(()),
+            Err(kind) => {
+                self.bytes.truncate(start);
+                Err(kind)
+            }
         }
-        Ok(())
     }
+}
 
-    fn push(&mut self, text: &[u8]) -> Result<(), AllocError>
-        requires short { length text.now < 2 ^ 16 }
-        requires fits { texts_stored self.old + length text.now < 2 ^ 32 }
-        ensures ok { OnOk result (texts_of self.new ≡ texts_of self.old ++ text.now ∷ []) }
-        ensures stored { OnOk result (texts_stored self.new ≡ texts_stored self.old + (length text.now + 6)) }
-        ensures err { OnErr result ((texts_of self.new ≡ texts_of self.old) × (texts_stored self.new ≡ texts_stored self.old)) }
-        ensures memory { OnErr result (HasRefused A.refuses (texts_stored self.old + (length text.now + 6))) }
-    {
-        A::reserve(&mut self.ends, 1)?;
-        A::reserve(&mut self.bytes, text.len() + 2)?;
-        self.bytes.extend_from_slice(text)?;
-        let end = self.bytes.len() as u32;
-        self.bytes.push_reserved((text.len() % 256) as u8);
-        self.bytes.push_reserved((text.len() / 256) as u8);
-        self.ends.push_reserved(end);
-        Ok(())
+// Appends the text and its length to the bytes; `OutOfMemory` if there is no memory for them.
+fn append<A: Memory + Copy>(bytes: &mut Vec<u8, A>, text: &[u8]) -> Result<(), Kind>
+    requires short { length text.now < 2 ^ 16 }
+    requires fits { length bytes.old.items + length text.now < 2 ^ 32 }
+    ensures ok { OnOk result (bytes.new.items ≡ bytes.old.items ++ pooled text.now) }
+    ensures err { OnErr result (bytes.new.items ≡ bytes.old.items) }
+    ensures kind { IfErr result (λ kind. kind ≡ Kind.OutOfMemory) }
+    ensures memory { OnErr result (HasRefused A.refuses (length bytes.old.items + (length text.now + 2))) }
+{
+    if A::reserve(bytes, text.len() + 2).is_err() {
+        return Err(Kind::OutOfMemory);
     }
+    if bytes.extend_from_slice(text).is_err() {
+        return Err(Kind::OutOfMemory);
+    }
+    bytes.push_reserved((text.len() % 256) as u8);
+    bytes.push_reserved((text.len() / 256) as u8);
+    Ok(())
 }
 
 // The text that ends at this place.
@@ -163,9 +220,7 @@ fn byte(bytes: &[u8], i: usize) -> usize
 
 // Sorts the ends by their texts, and drops those of texts that begin with another one.
 fn order<A: Allocator + Copy>(bytes: &[u8], ends: &mut Vec<u32, A>)
-    ensures ordered { IsOrdered (map (text_at bytes.now) ends.new.items) }
-    ensures alike { ShowAlike (map (text_at bytes.now) ends.old.items) (map (text_at bytes.now) ends.new.items) }
-    ensures prunes { Prunes (map (text_at bytes.now) ends.old.items) (map (text_at bytes.now) ends.new.items) }
+    ensures order { PutsInOrder (map (text_at bytes.now) ends.old.items) (map (text_at bytes.now) ends.new.items) }
     ensures fewer { length ends.new.items ≤ length ends.old.items }
     ensures sound { All (IsEnd bytes.now) ends.old.items → All (IsEnd bytes.now) ends.new.items }
 {
@@ -211,17 +266,17 @@ fn prune<A: Allocator + Copy>(bytes: &[u8], ends: &mut Vec<u32, A>)
     );
 }
 
-/// Keeps an object name after the others; `OutOfMemory` if there is no memory for it.
-pub(crate) fn keep_id<A: Memory + Copy>(ids: &mut Vec<Oid, A>, id: Oid) -> Result<(), Kind>
-    ensures ok { OnOk result (ids.new.items ≡ ids.old.items ++ id ∷ []) }
-    ensures err { OnErr result (ids.new.items ≡ ids.old.items) }
+// Adds an item to the list; `OutOfMemory` if there is no memory for it.
+fn keep_item<X: Copy, A: Memory + Copy>(list: &mut Vec<X, A>, item: X) -> Result<(), Kind>
+    ensures ok { OnOk result (list.new.items ≡ list.old.items ++ item ∷ []) }
+    ensures err { OnErr result (list.new.items ≡ list.old.items) }
     ensures kind { IfErr result (λ kind. kind ≡ Kind.OutOfMemory) }
-    ensures memory { OnErr result (HasRefused A.refuses (33 * (length ids.old.items + 1))) }
+    ensures memory { OnErr result (HasRefused A.refuses ((length list.old.items + 1) * bytes_each X.row)) }
 {
-    if A::reserve(ids, 1).is_err() {
+    if A::reserve(list, 1).is_err() {
         return Err(Kind::OutOfMemory);
     }
-    ids.push_reserved(id);
+    list.push_reserved(item);
     Ok(())
 }
 
@@ -233,48 +288,4 @@ pub(crate) fn check_id(format: Format, id: &Oid) -> Result<(), Kind>
         return Err(Kind::BadObjectName);
     }
     Ok(())
-}
-
-/// The index after a flag's argument, if that is among the arguments; none if the index is its own.
-pub(crate) fn past_flag(set: bool, i: usize) -> Option<usize>
-    ensures { MatchOption result
-        ((flag : Flag) (others : List Arg) → slice_get (where_asked set flag ++ others) i ≡ Some (alone (of_flag flag)))
-        (λ next. (flag : Flag) (others : List Arg) → slice_get (where_asked set flag ++ others) i ≡ slice_get others next) }
-{
-    if !set {
-        return Some(i);
-    }
-    if i == 0 {
-        return None;
-    }
-    Some(i - 1)
-}
-
-/// The object name whose argument has this index, if one of these has it; otherwise the index after them.
-pub(crate) fn id_at(ids: &[Oid], i: usize) -> Result<&Oid, usize>
-    ensures { MatchResult result
-        (λ id. (word : Word) (others : List Arg) → slice_get (map (with_id word) ids.now ++ others) i ≡ Some (with_id word id.now))
-        (λ next. (word : Word) (others : List Arg) → slice_get (map (with_id word) ids.now ++ others) i ≡ slice_get others next) }
-{
-    match ids.get(i) {
-        Some(id) => Ok(id),
-        None => Err(i - ids.len()),
-    }
-}
-
-/// The number whose argument has this index, if there is a number; otherwise the index after it.
-pub(crate) fn number_at(number: Option<u64>, i: usize) -> Result<u64, usize>
-    ensures { MatchResult result
-        (λ own. (word : Word) (others : List Arg) → slice_get (where_given word number ++ others) i ≡ Some (with_number word own))
-        (λ next. (word : Word) (others : List Arg) → slice_get (where_given word number ++ others) i ≡ slice_get others next) }
-{
-    match number {
-        None => Err(i),
-        Some(own) => {
-            if i == 0 {
-                return Ok(own);
-            }
-            Err(i - 1)
-        }
-    }
 }

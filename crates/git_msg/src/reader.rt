@@ -176,7 +176,7 @@ impl<A: Allocator + Copy> RequestReader<A> {
 impl<A: Memory + Copy> RequestReader<A> {
     ghost use Rattle.std.specs.Prelude.{◌≡◌, ◌+◌, ◌*◌, None, IfErr, length};
     ghost use Rattle.git_names.specs.Steps.{TakesAtMost};
-    ghost use Rattle.git_pkt.specs.Packets.{body_of, seen};
+    ghost use Rattle.git_pkt.specs.Packets.{body_of, payload, seen};
     ghost use Rattle.git_msg.specs.Machine.RequestReader.{Brings, GotNeedsRefusal, IsCovered, fault_of, limit_in};
     ghost use Rattle.git_msg.specs.Machine.RequestReaderSteps.{StepsOn};
     ghost use Rattle.git_msg.specs.Memory.{NeedsRefusal};
@@ -224,20 +224,7 @@ impl<A: Memory + Copy> RequestReader<A> {
         ensures memory { IfErr result (NeedsRefusal A.refuses (limit_in self.old)) }
     {
         match packet {
-            Packet::Payload(payload) => {
-                let text = text(payload);
-                let argument = match read_text(self.request.command(), &self.offer, text, steps) {
-                    Ok(argument) => argument,
-                    Err(kind) => return Err(kind),
-                };
-                // One call of `refusal_of`; the pushed value, with its end, has fewer bytes than the text.
-                steps.tick(text.len() + 1);
-                if let Some(kind) = admits.refusal_of(&argument) {
-                    return Err(kind);
-                }
-                self.request.push(&argument, text.len())?;
-                Ok(ReadGot::More)
-            }
+            Packet::Payload(bytes) => self.take_line(admits, bytes, steps),
             Packet::Flush => {
                 self.request.check_end()?;
                 Ok(ReadGot::Request(self.restart()))
@@ -245,5 +232,31 @@ impl<A: Memory + Copy> RequestReader<A> {
             Packet::Delim => Err(Kind::UnexpectedPacket),
             Packet::RespEnd => Err(Kind::UnexpectedPacket),
         }
+    }
+
+    // Takes the line of an argument.
+    fn take_line<B: Admits>(
+        &mut self,
+        admits: &B,
+        bytes: &[u8],
+        steps: &mut Steps,
+    ) -> Result<ReadGot<A>, Kind>
+        requires { self.old.part ≡ Part.Arguments }
+        ensures goes_on { StepsOn (B.refused_as admits.now) self.old (payload bytes.now) result self.new }
+        ensures cost { TakesAtMost (42 * (length bytes.now + 1)) steps.old steps.new }
+        ensures memory { IfErr result (NeedsRefusal A.refuses (limit_in self.old)) }
+    {
+        let text = text(bytes);
+        let argument = match read_text(self.request.command(), &self.offer, text, steps) {
+            Ok(argument) => argument,
+            Err(kind) => return Err(kind),
+        };
+        // One call of `refusal_of`; the pushed value, with its end, has fewer bytes than the text.
+        steps.tick(text.len() + 1);
+        if let Some(kind) = admits.refusal_of(&argument) {
+            return Err(kind);
+        }
+        self.request.push(&argument, text.len())?;
+        Ok(ReadGot::More)
     }
 }

@@ -5,7 +5,7 @@ ghost use Rattle.git_pkt.specs.Packets.{longest_payload, spelling_of};
 ghost use Rattle.git_msg.specs.Arguments.{shown, written_text};
 ghost use Rattle.git_msg.specs.WrittenRequest.{text_line};
 
-use crate::arguments::Argument;
+use crate::arguments::{Argument, word_at};
 use git_names::Oid;
 use git_pkt::{Hold, append, begin};
 use itoa::Buffer;
@@ -28,18 +28,12 @@ pub(crate) fn put_argument(hold: &mut Hold, argument: &Argument<'_>)
     requires { length (written_text (shown argument.now)) < longest_payload }
     ensures { hold.new.items ≡ spelling_of (text_line (written_text (shown argument.now))) }
 {
+    let word = word_at(argument).keyword();
     match argument {
-        Argument::Flag(flag) => put_line(hold, flag.word(), b""),
-        Argument::RefPrefix(prefix) => put_line(hold, b"ref-prefix ", prefix),
-        Argument::Want(id) => put_name_line(hold, b"want ", id),
-        Argument::Have(id) => put_name_line(hold, b"have ", id),
-        Argument::Filter(spec) => put_line(hold, b"filter ", spec),
-        Argument::Shallow(id) => put_name_line(hold, b"shallow ", id),
-        Argument::Deepen(depth) => put_number_line(hold, b"deepen ", *depth),
-        Argument::DeepenSince(time) => put_number_line(hold, b"deepen-since ", *time),
-        Argument::DeepenNot(revision) => put_line(hold, b"deepen-not ", revision),
-        Argument::WantRef(name) => put_line(hold, b"want-ref ", name),
-        Argument::ObjectId(id) => put_name_line(hold, b"oid ", id),
+        Argument::Flag(_) => put_line(hold, word, b""),
+        Argument::Object(_, id) => put_name_line(hold, word, id),
+        Argument::Text(_, text) => put_line(hold, word, text),
+        Argument::Number(_, number) => put_number_line(hold, word, *number),
     }
 }
 

@@ -3,7 +3,8 @@ use Rattle.std.proofs.Common.{◌≡◌, ℕ, ◌≤◌, true, Some, List, [], �
 use Rattle.git_pkt.specs.Packets.{flush}
 use Rattle.git_pkt.specs.declared.fault.Kind.TheVariants.{UnknownCommand}
 use Rattle.git_msg.specs.Advertisement.{takes_command}
-use Rattle.git_msg.specs.Arguments.{name_of, ReadsAs, alone, of_flag, want, with_id}
+use Rattle.git_msg.specs.Arguments.{name_of, ReadsAs, alone, with_id}
+use Rattle.git_msg.specs.declared.words.ObjectWord.{ObjectWord}
 use Rattle.git_msg.specs.Lines.{HasFault, key_by, IsLine, Line, agent, argument, command, delimiter}
 use Rattle.git_msg.specs.Requests.{AreLines, Asks}
 use Rattle.git_msg.specs.Asked.{fetch, ls_refs}
@@ -54,13 +55,13 @@ agent_line limit = record {
 abbrev pub fetch_begun : List Line
 fetch_begun = command Fetch ∷ delimiter ∷ []
 
-pub want_reads : ReadsAs Fetch offer_all (codes "want " ++ all_a) (with_id want name_a)
-want_reads = record { is_argument = (refl, record { value = all_a; spelled = refl; holds = all_a_is_name }); offered = refl }
+pub want_reads : ReadsAs Fetch offer_all (codes "want " ++ all_a) (with_id ObjectWord.Want name_a)
+want_reads = record { is_argument = (refl, record { value = all_a; spelled = refl; states = all_a_is_name }); offered = refl }
 
-pub done_reads : ReadsAs Fetch offer_all (codes "done") (alone (of_flag Flag.Done))
-done_reads = record { is_argument = (refl, refl); offered = refl }
+pub done_reads : ReadsAs Fetch offer_all (codes "done") (alone Flag.Done)
+done_reads = record { is_argument = (refl, record { value = []; spelled = refl; states = tt }); offered = refl }
 
-pub want_line : (limit : ℕ) → 45 ≤ limit → IsLine offer_all limit fetch_begun (text_line (codes "want " ++ all_a)) (argument (with_id want name_a) 45)
+pub want_line : (limit : ℕ) → 45 ≤ limit → IsLine offer_all limit fetch_begun (text_line (codes "want " ++ all_a)) (argument (with_id ObjectWord.Want name_a) 45)
 want_line limit fits = record {
   is_text = record { no_error = no_error_by (codes "want " ++ all_a) refl; of = Fetch; asked = refl; reads = want_reads };
   long_is = refl;
@@ -69,16 +70,16 @@ want_line limit fits = record {
 
 -- the lines of a fetch with one want
 abbrev pub want_lines : List Line
-want_lines = command Fetch ∷ delimiter ∷ argument (with_id want name_a) 45 ∷ []
+want_lines = command Fetch ∷ delimiter ∷ argument (with_id ObjectWord.Want name_a) 45 ∷ []
 
 pub are_want_lines : (limit : ℕ) → 45 ≤ limit → AreLines offer_all limit [] want_alone_packets want_lines
 are_want_lines limit fits = (fetch_command limit, ((refl, (tt, tt)), (want_line limit fits, tt)))
 
 -- and with `done` after it
 abbrev pub done_lines : List Line
-done_lines = want_lines ++ argument (alone (of_flag Flag.Done)) 4 ∷ []
+done_lines = want_lines ++ argument (alone Flag.Done) 4 ∷ []
 
-done_line : (limit : ℕ) → 49 ≤ limit → IsLine offer_all limit want_lines (text_line (codes "done")) (argument (alone (of_flag Flag.Done)) 4)
+done_line : (limit : ℕ) → 49 ≤ limit → IsLine offer_all limit want_lines (text_line (codes "done")) (argument (alone Flag.Done) 4)
 done_line limit fits = record {
   is_text = record { no_error = no_error_by (codes "done") refl; of = Fetch; asked = refl; reads = done_reads };
   long_is = refl;

@@ -4,7 +4,7 @@ use Rattle.std.proofs.Math.Seq.{take-append_seam}
 use Rattle.std.proofs.lemmas.Bool.{and_parts}
 use Rattle.std.proofs.lemmas.Slice.Eq.{bytes_eq-Decides}
 use Rattle.std.specs.Str.{bytes_eq}
-use Rattle.git_msg.specs.Texts.{BeginsOtherThan, BeginsWithNone, IsErrorText}
+use Rattle.git_msg.specs.Texts.{BeginsOtherThan, IsErrorText}
 
 -- texts that differ
 pub differ : (a b : List ℕ) → bytes_eq a b ≡ false → a ≢ b
@@ -24,18 +24,7 @@ begins_otherwise word text h rest e = differ (take (length word) text) word h (a
 pub no_error_by : (text : List ℕ) → bytes_eq (take 4 text) (codes "ERR ") ≡ false → ¬ IsErrorText text
 no_error_by text h error = begins_otherwise (codes "ERR ") text h error.message error.spelled
 
--- it begins with none of the words
-abbrev pub begins_with_none : List (List ℕ) → List ℕ → Bool
-begins_with_none [] text = true
-begins_with_none (word ∷ words) text = not (bytes_eq (take (length word) text) word) && begins_with_none words text
-
 -- a test that fails
 pub not_true : (b : Bool) → not b ≡ true → b ≡ false
 not_true true h = cc
 not_true false h = refl
-
-pub begins_with_none_by : (words : List (List ℕ)) (text : List ℕ) → begins_with_none words text ≡ true → BeginsWithNone words text
-begins_with_none_by [] text h = tt
-begins_with_none_by (word ∷ words) text h =
-    let parts = and_parts (not (bytes_eq (take (length word) text) word)) (begins_with_none words text) h in
-    (begins_otherwise word text (not_true _ parts.0), begins_with_none_by words text parts.1)

@@ -1,8 +1,11 @@
 -- The values that the rows use.
-use Rattle.std.specs.Prelude.{ℕ, Bool, false, List, [], Option, None, ◌∷◌, ◌++◌, codes, replicate}
+use Rattle.std.specs.Prelude.{ℕ, Bool, List, [], Option, ◌∷◌, ◌++◌, codes, map, replicate}
 use Rattle.git_msg.specs.Advertisement.{everything}
-use Rattle.git_msg.specs.Asked.{FetchAsked, LsRefsAsked}
-use Rattle.git_msg.specs.Flags.{flags_where, pack_flags}
+use Rattle.git_msg.specs.Arguments.{Arg, with_id, with_text}
+use Rattle.git_msg.specs.Asked.{where_asked}
+use Rattle.git_msg.specs.declared.flags.Flag.{Flag}
+use Rattle.git_msg.specs.declared.words.ObjectWord.{ObjectWord}
+use Rattle.git_msg.specs.declared.words.TextWord.{TextWord}
 use Rattle.git_msg.specs.WrittenRequest.{text_line}
 use Rattle.git_msg.specs.declared.offers.Offer.{Offer}
 use Rattle.git_msg.specs.declared.response_lines.Info.{Info}
@@ -60,24 +63,12 @@ abbrev pub info_of : ObjectName → Option ℕ → Info
 info_of id size = record { id = id; size = size }
 
 -- what a request for references without flags asks for, with these prefixes
-abbrev pub ls_refs_of : List (List ℕ) → LsRefsAsked
-ls_refs_of prefixes = record { symrefs = false; peel = false; unborn = false; ref_prefixes = prefixes }
+abbrev pub ls_refs_of : List (List ℕ) → List Arg
+ls_refs_of prefixes = map (with_text TextWord.RefPrefix) prefixes
 
 -- what a fetch asks for, with these `want` lines, perhaps `done`, and no other line
-abbrev pub fetch_of : List ObjectName → Bool → FetchAsked
-fetch_of wants is_done = record {
-  wants = wants;
-  haves = [];
-  flags = flags_where pack_flags (λ flag. false);
-  done = is_done;
-  filters = [];
-  shallows = [];
-  deepen = None;
-  deepen_relative = false;
-  deepen_since = None;
-  deepen_nots = [];
-  want_refs = [];
-}
+abbrev pub fetch_of : List ObjectName → Bool → List Arg
+fetch_of wants is_done = map (with_id ObjectWord.Want) wants ++ where_asked is_done Flag.Done
 
 -- a request for references, from the offset 0 on
 abbrev pub ls_refs_packets : List Given
@@ -102,9 +93,9 @@ three_argument_packets =
     ∷ at 33 (text_line (codes "ref-prefix refs/heads/")) ∷ at 60 (text_line (codes "symrefs")) ∷ []
 
 -- a request for references with these flags and prefixes
-abbrev pub asked_with : (symrefs peel : Bool) → List (List ℕ) → LsRefsAsked
-asked_with symrefs peel prefixes = record { symrefs = symrefs; peel = peel; unborn = false; ref_prefixes = prefixes }
+abbrev pub asked_with : (symrefs peel : Bool) → List (List ℕ) → List Arg
+asked_with symrefs peel prefixes = where_asked peel Flag.Peel ++ (where_asked symrefs Flag.Symrefs ++ map (with_text TextWord.RefPrefix) prefixes)
 
 -- a fetch that negotiates, with these `have` lines
-abbrev pub haves_of : List ObjectName → FetchAsked
-haves_of haves = record (fetch_of (name_a ∷ []) false) { haves = haves }
+abbrev pub haves_of : List ObjectName → List Arg
+haves_of haves = with_id ObjectWord.Want name_a ∷ map (with_id ObjectWord.Have) haves

@@ -2,8 +2,10 @@
 
 ghost use Rattle.std.specs.Prelude.{◌≡◌, ◌≢◌, ◌++◌, ◌∷◌, [], Some, None, codes, decimal};
 ghost use Rattle.git_msg.specs.Advertisement.{everything, nothing};
-ghost use Rattle.git_msg.specs.Arguments.{IsArgumentFault, ReadsAs, alone, of_flag, want, want_ref, with_id, with_number, with_text};
-ghost use Rattle.git_msg.specs.Arguments.{deepen, deepen_not, deepen_since, filter_spec, have, object_id, ref_prefix, shallow};
+ghost use Rattle.git_msg.specs.Arguments.{IsArgumentFault, ReadsAs, alone, with_id, with_number, with_text};
+ghost use Rattle.git_msg.specs.declared.words.ObjectWord.{ObjectWord};
+ghost use Rattle.git_msg.specs.declared.words.TextWord.{TextWord};
+ghost use Rattle.git_msg.specs.declared.words.NumberWord.{NumberWord};
 ghost use Rattle.git_msg.specs.Capability.{IsCapability, IsNoCapability};
 ghost use Rattle.git_msg.specs.declared.arguments.Command.TheVariants.{Fetch, LsRefs, ObjectInfo};
 ghost use Rattle.git_msg.specs.declared.flags.Flag.TheVariants.{Done, Peel, Size, Unborn};
@@ -32,22 +34,22 @@ pub fn capability_lines()
 
 /// An argument of each kind.
 pub fn arguments_of_each_kind()
-    ensures flag { ReadsAs Fetch offer_all (codes "done") (alone (of_flag Done)) }
-    ensures object { ReadsAs Fetch offer_all (codes "want " ++ all_a) (with_id want name_a) }
-    ensures common { ReadsAs Fetch offer_all (codes "have " ++ all_a) (with_id have name_a) }
-    ensures shallow_commit { ReadsAs Fetch offer_all (codes "shallow " ++ all_a) (with_id shallow name_a) }
-    ensures depth { ReadsAs Fetch offer_all (codes "deepen 0002147483647") (with_number deepen 2147483647) }
-    ensures time { ReadsAs Fetch offer_all (codes "deepen-since 9223372036854775807") (with_number deepen_since 9223372036854775807) }
-    ensures revision { ReadsAs Fetch offer_all (codes "deepen-not x") (with_text deepen_not (codes "x")) }
-    ensures reference { ReadsAs Fetch offer_all (codes "want-ref refs/heads/@") (with_text want_ref (codes "refs/heads/@")) }
-    ensures filter { ReadsAs Fetch offer_all (codes "filter blob:none") (with_text filter_spec (codes "blob:none")) }
-    ensures prefix { ReadsAs LsRefs offer_all (codes "ref-prefix refs/") (with_text ref_prefix (codes "refs/")) }
-    ensures empty_prefix { ReadsAs LsRefs offer_all (codes "ref-prefix ") (with_text ref_prefix []) }
-    ensures sized { ReadsAs ObjectInfo offer_all (codes "oid " ++ all_a) (with_id object_id name_a) }
-    ensures not_another_flag { ¬ ReadsAs LsRefs offer_all (codes "unborn") (alone (of_flag Peel)) }
-    ensures not_of_another_command { ¬ ReadsAs LsRefs offer_all (codes "done") (alone (of_flag Done)) }
-    ensures not_another_word { ¬ ReadsAs Fetch offer_all (codes "want " ++ all_a) (with_id have name_a) }
-    ensures not_what_is_not_offered { ¬ ReadsAs LsRefs (nothing Sha1) (codes "unborn") (alone (of_flag Unborn)) }
+    ensures flag { ReadsAs Fetch offer_all (codes "done") (alone Done) }
+    ensures object { ReadsAs Fetch offer_all (codes "want " ++ all_a) (with_id ObjectWord.Want name_a) }
+    ensures common { ReadsAs Fetch offer_all (codes "have " ++ all_a) (with_id ObjectWord.Have name_a) }
+    ensures shallow_commit { ReadsAs Fetch offer_all (codes "shallow " ++ all_a) (with_id ObjectWord.Shallow name_a) }
+    ensures depth { ReadsAs Fetch offer_all (codes "deepen 0002147483647") (with_number NumberWord.Deepen 2147483647) }
+    ensures time { ReadsAs Fetch offer_all (codes "deepen-since 9223372036854775807") (with_number NumberWord.DeepenSince 9223372036854775807) }
+    ensures revision { ReadsAs Fetch offer_all (codes "deepen-not x") (with_text TextWord.DeepenNot (codes "x")) }
+    ensures reference { ReadsAs Fetch offer_all (codes "want-ref refs/heads/@") (with_text TextWord.WantRef (codes "refs/heads/@")) }
+    ensures filter { ReadsAs Fetch offer_all (codes "filter blob:none") (with_text TextWord.Filter (codes "blob:none")) }
+    ensures prefix { ReadsAs LsRefs offer_all (codes "ref-prefix refs/") (with_text TextWord.RefPrefix (codes "refs/")) }
+    ensures empty_prefix { ReadsAs LsRefs offer_all (codes "ref-prefix ") (with_text TextWord.RefPrefix []) }
+    ensures sized { ReadsAs ObjectInfo offer_all (codes "oid " ++ all_a) (with_id ObjectWord.ObjectId name_a) }
+    ensures not_another_flag { ¬ ReadsAs LsRefs offer_all (codes "unborn") (alone Peel) }
+    ensures not_of_another_command { ¬ ReadsAs LsRefs offer_all (codes "done") (alone Done) }
+    ensures not_another_word { ¬ ReadsAs Fetch offer_all (codes "want " ++ all_a) (with_id ObjectWord.Have name_a) }
+    ensures not_what_is_not_offered { ¬ ReadsAs LsRefs (nothing Sha1) (codes "unborn") (alone Unborn) }
 {}
 
 /// Arguments that are refused, each with its error.

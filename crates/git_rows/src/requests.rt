@@ -1,7 +1,7 @@
 //! Requests: packets that are one, and the first packet that is refused, with its error and its offset.
 
 ghost use Rattle.std.specs.Prelude.{◌++◌, ◌∷◌, [], codes, false, true};
-ghost use Rattle.git_msg.specs.Arguments.{alone, of_flag, want, with_id};
+ghost use Rattle.git_msg.specs.Arguments.{alone, with_id};
 ghost use Rattle.git_msg.specs.Asked.{fetch, ls_refs};
 ghost use Rattle.git_msg.specs.Lines.{HasFault, IsLine, argument, command, delimiter};
 ghost use Rattle.git_msg.specs.Requests.{Asks, FirstFault, IsStop, WantsMemory};

@@ -11,8 +11,9 @@ use Rattle.git_msg.specs.declared.offers.Offer.{Offer}
 use Rattle.git_msg.specs.declared.arguments.Command.{Command}
 use Rattle.git_msg.specs.declared.arguments.Command.TheVariants.{LsRefs, Fetch, ObjectInfo}
 use Rattle.git_msg.specs.Admission.{AreAdmitted, IsAdmitted, IsAnnouncedFor}
-use Rattle.git_msg.specs.Arguments.{Arg, Value, Word, id_value, of_flag, text_value, want, want_ref}
-use Rattle.git_msg.specs.declared.flags.Flag.{Flag}
+use Rattle.git_msg.specs.Arguments.{Arg, with_id, with_text}
+use Rattle.git_msg.specs.declared.words.ObjectWord.{ObjectWord}
+use Rattle.git_msg.specs.declared.words.TextWord.{TextWord}
 use Rattle.git_msg.specs.Asked.{Asked, asked_by, id_in, text_in}
 use Rattle.git_msg.specs.Lines.{Line, arguments_of}
 use Rattle.git_msg.specs.Requests.{AreLines, Asks}
@@ -20,7 +21,7 @@ use Rattle.git_msg.proofs.FoundParts.{All-filter_map}
 use Rattle.git_msg.proofs.LineLaws.{fronts_same, one_list_of_lines}
 use Rattle.git_msg.proofs.PacketFaults.{NotOfPackets, announced_of_packets}
 use Rattle.git_server.specs.Repository.{Repository, found_ref}
-use Rattle.git_server.specs.Admission.{barred, barred_ref, barred_value, HasAsked}
+use Rattle.git_server.specs.Admission.{barred, barred_ref, HasAsked}
 
 had_by : (b : Bool) → (if b then None else Some NotOurs) ≡ None → b ≡ true
 had_by true h = refl
@@ -43,36 +44,29 @@ unfound_by : (found : Option ObjectName) (kind : Kind) → NotOfRepository kind 
 unfound_by (Some id) kind other h = cc
 unfound_by None kind other h = other.not_unknown (cc)
 
-value_not_barred : (repo : Repository) (word : Word) (value : Value) (kind : Kind) → NotOfRepository kind → barred_value repo word value ≡ Some kind → ⊥
-value_not_barred repo want (id_value id) kind other h = barred_by (repo.has id) kind other h
-value_not_barred repo want_ref (text_value name) kind other h = unfound_by (found_ref repo.refs name) kind other h
-value_not_barred repo word value kind other h = absurd (cc)
-
 not_barred : (repo : Repository) (arg : Arg) (kind : Kind) → NotOfRepository kind → barred repo arg ≡ Some kind → ⊥
-not_barred repo arg kind other h = value_not_barred repo arg.word arg.value kind other h
+not_barred repo (with_id ObjectWord.Want id) kind other h = barred_by (repo.has id) kind other h
+not_barred repo (with_text TextWord.WantRef name) kind other h = unfound_by (found_ref repo.refs name) kind other h
+not_barred repo arg kind other h = absurd (cc)
 
-want_had : (repo : Repository) (word : Word) (value : Value) → barred_value repo word value ≡ None
-    → IfSome (id_in want (record { word = word; value = value })) (λ id. repo.has id ≡ true)
-want_had repo want (id_value id) h = had_by (repo.has id) h
-want_had repo (of_flag Flag.Size) value h = tt
-want_had repo word value h = tt
+want_had : (repo : Repository) (arg : Arg) → barred repo arg ≡ None → IfSome (id_in ObjectWord.Want arg) (λ id. repo.has id ≡ true)
+want_had repo (with_id ObjectWord.Want id) h = had_by (repo.has id) h
+want_had repo arg h = tt
 
-ref_found : (repo : Repository) (word : Word) (value : Value) → barred_value repo word value ≡ None
-    → IfSome (text_in want_ref (record { word = word; value = value })) (λ name. found_ref repo.refs name ≢ None)
-ref_found repo want_ref (text_value name) h = found_by (found_ref repo.refs name) h
-ref_found repo (of_flag Flag.Size) value h = tt
-ref_found repo word value h = tt
+ref_found : (repo : Repository) (arg : Arg) → barred repo arg ≡ None → IfSome (text_in TextWord.WantRef arg) (λ name. found_ref repo.refs name ≢ None)
+ref_found repo (with_text TextWord.WantRef name) h = found_by (found_ref repo.refs name) h
+ref_found repo arg h = tt
 
 -- a request of admitted arguments asks for objects and references that the repository has
 asked_had : (repo : Repository) (c : Command) (args : List Arg) → All (IsAdmitted (barred repo)) args → HasAsked repo (asked_by c args)
 asked_had repo LsRefs args h = tt
 asked_had repo ObjectInfo args h = tt
 asked_had repo Fetch args h = (
-  All-filter_map (λ id. repo.has id ≡ true) (id_in want) args
-      (All-weaker (IsAdmitted (barred repo)) (λ arg. IfSome (id_in want arg) (λ id. repo.has id ≡ true)) (λ arg. want_had repo arg.word arg.value) args h),
-  All-filter_map (λ name. found_ref repo.refs name ≢ None) (text_in want_ref) args
-      (All-weaker (IsAdmitted (barred repo)) (λ arg. IfSome (text_in want_ref arg) (λ name. found_ref repo.refs name ≢ None))
-      (λ arg. ref_found repo arg.word arg.value) args h),
+  All-filter_map (λ id. repo.has id ≡ true) (id_in ObjectWord.Want) args
+      (All-weaker (IsAdmitted (barred repo)) (λ arg. IfSome (id_in ObjectWord.Want arg) (λ id. repo.has id ≡ true)) (want_had repo) args h),
+  All-filter_map (λ name. found_ref repo.refs name ≢ None) (text_in TextWord.WantRef) args
+      (All-weaker (IsAdmitted (barred repo)) (λ arg. IfSome (text_in TextWord.WantRef arg) (λ name. found_ref repo.refs name ≢ None))
+      (ref_found repo) args h),
 )
 
 module _ (offer : Offer) (limit : ℕ) (repo : Repository) where

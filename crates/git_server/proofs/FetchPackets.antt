@@ -7,7 +7,7 @@ use Rattle.git_names.specs.ObjectName.{ObjectName}
 use Rattle.git_pkt.specs.Packets.{Pkt, flush, flushes, delim}
 use Rattle.git_msg.specs.declared.Boundary.{Boundary}
 use Rattle.git_msg.specs.declared.Boundary.TheVariants.{Shallow, Unshallow}
-use Rattle.git_msg.specs.Asked.{FetchAsked}
+use Rattle.git_msg.specs.Asked.{haves_in, want_refs_in}
 use Rattle.git_msg.specs.WrittenRequest.{text_line}
 use Rattle.git_server.specs.Repository.{Repository, found_ref}
 use Rattle.git_server.specs.Packs.{Manner, whole, broken, IsPackfile}
@@ -29,10 +29,11 @@ use Rattle.git_server.specs.declared.sections.SectionPlace.{SectionPlace}
 use Rattle.git_server.specs.declared.sections.SectionPlace.TheVariants.{Header, Line}
 use Rattle.git_server.proofs.Flushes.{flushes-append}
 use Rattle.git_server.proofs.PackPackets.{broken_packfile_has_none, packfile_ends_later, some_packfile}
+use Rattle.git_msg.specs.Arguments.{Arg}
 
 -- Of an answer that was not begun.
 
-pub whole_fetch : (manner : Manner) (repo : Repository) (q : FetchAsked) (b : Bool) (later : List Pkt)
+pub whole_fetch : (manner : Manner) (repo : Repository) (q : List Arg) (b : Bool) (later : List Pkt)
     → IsFetchFrom manner repo q (place_by b) later → IsFetchAnswerBy b manner repo q later
 whole_fetch manner repo q true later h = h
 whole_fetch manner repo q false later h = h
@@ -49,7 +50,7 @@ one_first xs ys P packet later one h = record {
 }
 
 -- one of the acknowledgments, and then the others
-negotiates_on : (ready : Bool) (manner : Manner) (repo : Repository) (q : FetchAsked) (xs ys : List Pkt) (packet : Pkt) (later : List Pkt)
+negotiates_on : (ready : Bool) (manner : Manner) (repo : Repository) (q : List Arg) (xs ys : List Pkt) (packet : Pkt) (later : List Pkt)
     → xs ≡ packet ∷ ys → IsNegotiated ready ys manner repo q later → IsNegotiated ready xs manner repo q (packet ∷ later)
 negotiates_on true manner repo q xs ys packet later one h =
     one_first (xs ++ ready_lines) (ys ++ ready_lines) (EndsWithBoundary manner repo q) packet later (ap (λ (l : List Pkt). l ++ ready_lines) one) h
@@ -58,7 +59,7 @@ negotiates_on false whole repo q xs ys packet later one h =
 negotiates_on false broken repo q xs ys packet later one h = absurd h
 
 -- the `ready` line
-negotiates_ready : (ready : Bool) (manner : Manner) (repo : Repository) (q : FetchAsked) (xs : List Pkt) (later : List Pkt)
+negotiates_ready : (ready : Bool) (manner : Manner) (repo : Repository) (q : List Arg) (xs : List Pkt) (later : List Pkt)
     → xs ≡ [] → ready ≡ true → IsAfter (delim ∷ []) (EndsWithBoundary manner repo q) later
     → IsNegotiated ready xs manner repo q (text_line (codes "ready") ∷ later)
 negotiates_ready true manner repo q xs later none is h =
@@ -66,7 +67,7 @@ negotiates_ready true manner repo q xs later none is h =
     (ap (λ (l : List Pkt). l ++ ready_lines) none) h
 negotiates_ready false manner repo q xs later none is h = absurd (cc)
 
-module _ (repo : Repository) (q : FetchAsked) (place : AcknowledgmentsPlace) (packet : Pkt) (old : FetchPlace) (is : old ≡ Acknowledgments place) where
+module _ (repo : Repository) (q : List Arg) (place : AcknowledgmentsPlace) (packet : Pkt) (old : FetchPlace) (is : old ≡ Acknowledgments place) where
   abbrev pub IsNextFrom : FetchPlace → FetchPlace → Type 0
   IsNextFrom from new = IsNext (λ m p later. IsFetchFrom m repo q p later) (most_fetch repo q) from Part new packet
 
@@ -91,17 +92,17 @@ module _ (repo : Repository) (q : FetchAsked) (place : AcknowledgmentsPlace) (pa
 some_after : (first : List Pkt) (P : List Pkt → Type 0) → (later : List Pkt) × P later → (later : List Pkt) × IsAfter first P later
 some_after first P (later, h) = (first ++ later, record { others = later; holds = h; packets_are = refl })
 
-some_from_refs : (repo : Repository) (q : FetchAsked) (at : SectionPlace) → (later : List Pkt) × IsFetchFrom whole repo q (WantedRefs at) later
-some_from_refs repo q at = some_after (wanted_from repo q.want_refs at) (IsPackfile whole (repo.pack q)) (some_packfile (repo.pack q) PackHeader)
+some_from_refs : (repo : Repository) (q : List Arg) (at : SectionPlace) → (later : List Pkt) × IsFetchFrom whole repo q (WantedRefs at) later
+some_from_refs repo q at = some_after (wanted_from repo (want_refs_in q) at) (IsPackfile whole (repo.pack q)) (some_packfile (repo.pack q) PackHeader)
 
-some_from_boundary : (repo : Repository) (q : FetchAsked) (at : SectionPlace) → (later : List Pkt) × IsFetchFrom whole repo q (ShallowInfo at) later
+some_from_boundary : (repo : Repository) (q : List Arg) (at : SectionPlace) → (later : List Pkt) × IsFetchFrom whole repo q (ShallowInfo at) later
 some_from_boundary repo q at = some_after (boundary_from (repo.boundaries q) at) (EndsWithRefs whole repo q) (some_from_refs repo q Header)
 
-some_negotiated : (ready : Bool) (repo : Repository) (q : FetchAsked) (lines : List Pkt) → (later : List Pkt) × IsNegotiated ready lines whole repo q later
+some_negotiated : (ready : Bool) (repo : Repository) (q : List Arg) (lines : List Pkt) → (later : List Pkt) × IsNegotiated ready lines whole repo q later
 some_negotiated true repo q lines = some_after (lines ++ ready_lines) (EndsWithBoundary whole repo q) (some_from_boundary repo q Header)
 some_negotiated false repo q lines = (lines ++ flush ∷ [], refl)
 
-pub some_fetch : (repo : Repository) (q : FetchAsked) (place : FetchPlace) → (later : List Pkt) × IsFetchFrom whole repo q place later
+pub some_fetch : (repo : Repository) (q : List Arg) (place : FetchPlace) → (later : List Pkt) × IsFetchFrom whole repo q place later
 some_fetch repo q (Acknowledgments at) = some_negotiated (is_ready_for repo q) repo q (acknowledgments_from repo q at)
 some_fetch repo q Delimiter = some_after (delim ∷ []) (EndsWithBoundary whole repo q) (some_from_boundary repo q Header)
 some_fetch repo q (ShallowInfo at) = some_from_boundary repo q at
@@ -112,7 +113,7 @@ some_of_pack : (pack : List ℕ) (place : PackPlace) → 0 < most_packets pack p
 some_of_pack pack PackHeader = omega arith
 some_of_pack pack (Pack offset) = omega arith
 
-pub some_of_fetch : (repo : Repository) (q : FetchAsked) (place : FetchPlace) → 0 < most_fetch repo q place
+pub some_of_fetch : (repo : Repository) (q : List Arg) (place : FetchPlace) → 0 < most_fetch repo q place
 some_of_fetch repo q (Acknowledgments at) = omega arith
 some_of_fetch repo q Delimiter = omega arith
 some_of_fetch repo q (ShallowInfo at) = omega arith
@@ -133,9 +134,9 @@ acks_by_have_none : (announced : Bool) (ids : List ObjectName) → flushes (acks
 acks_by_have_none true ids = acks_have_none ids
 acks_by_have_none false ids = nak_or_acks_have_none ids
 
-acknowledgments_have_none : (repo : Repository) (q : FetchAsked) (place : AcknowledgmentsPlace) → flushes (acknowledgments_from repo q place) ≡ 0
-acknowledgments_have_none repo q AcknowledgmentsHeader = nak_or_acks_have_none (common repo.has q.haves)
-acknowledgments_have_none repo q (Have next announced) = acks_by_have_none announced (common repo.has (drop next q.haves))
+acknowledgments_have_none : (repo : Repository) (q : List Arg) (place : AcknowledgmentsPlace) → flushes (acknowledgments_from repo q place) ≡ 0
+acknowledgments_have_none repo q AcknowledgmentsHeader = nak_or_acks_have_none (common repo.has (haves_in q))
+acknowledgments_have_none repo q (Have next announced) = acks_by_have_none announced (common repo.has (drop next (haves_in q)))
 acknowledgments_have_none repo q Through = refl
 
 boundaries_have_none : (boundaries : List Boundary) → flushes (map boundary_packet boundaries ++ delim ∷ []) ≡ 0
@@ -166,17 +167,18 @@ after_ends : (first : List Pkt) (P : List Pkt → Type 0) (packets : List Pkt) �
     → IsAfter first P packets → flushes packets ≡ 1
 after_ends first P packets none ends h = omega (arith, ap flushes h.packets_are, flushes-append first h.others, none, ends h.others h.holds)
 
-refs_end : (repo : Repository) (q : FetchAsked) (at : SectionPlace) (packets : List Pkt)
+refs_end : (repo : Repository) (q : List Arg) (at : SectionPlace) (packets : List Pkt)
     → IsFetchFrom whole repo q (WantedRefs at) packets → flushes packets ≡ 1
-refs_end repo q at packets = after_ends (wanted_from repo q.want_refs at) (IsPackfile whole (repo.pack q)) packets (wanted_has_none repo q.want_refs at)
+refs_end repo q at packets =
+    after_ends (wanted_from repo (want_refs_in q) at) (IsPackfile whole (repo.pack q)) packets (wanted_has_none repo (want_refs_in q) at)
     (packfile_ends_later (repo.pack q) PackHeader)
 
-boundary_ends : (repo : Repository) (q : FetchAsked) (at : SectionPlace) (packets : List Pkt)
+boundary_ends : (repo : Repository) (q : List Arg) (at : SectionPlace) (packets : List Pkt)
     → IsFetchFrom whole repo q (ShallowInfo at) packets → flushes packets ≡ 1
 boundary_ends repo q at packets =
     after_ends (boundary_from (repo.boundaries q) at) (EndsWithRefs whole repo q) packets (boundary_has_none (repo.boundaries q) at) (refs_end repo q Header)
 
-negotiated_ends : (ready : Bool) (repo : Repository) (q : FetchAsked) (lines packets : List Pkt)
+negotiated_ends : (ready : Bool) (repo : Repository) (q : List Arg) (lines packets : List Pkt)
     → flushes lines ≡ 0 → IsNegotiated ready lines whole repo q packets → flushes packets ≡ 1
 negotiated_ends true repo q lines packets none h =
     let no_flush = flushes-append lines ready_lines in
@@ -184,7 +186,7 @@ negotiated_ends true repo q lines packets none h =
 negotiated_ends false repo q lines packets none h = omega (arith, ap flushes h, flushes-append lines (flush ∷ []), none)
 
 -- from each place on an answer has one flush
-pub fetch_ends_later : (repo : Repository) (q : FetchAsked) (place : FetchPlace) (packets : List Pkt)
+pub fetch_ends_later : (repo : Repository) (q : List Arg) (place : FetchPlace) (packets : List Pkt)
     → IsFetchFrom whole repo q place packets → flushes packets ≡ 1
 fetch_ends_later repo q (Acknowledgments at) packets h =
     negotiated_ends (is_ready_for repo q) repo q (acknowledgments_from repo q at) packets (acknowledgments_have_none repo q at) h
@@ -193,11 +195,11 @@ fetch_ends_later repo q (ShallowInfo at) packets h = boundary_ends repo q at pac
 fetch_ends_later repo q (WantedRefs at) packets h = refs_end repo q at packets h
 fetch_ends_later repo q (Packfile at) packets h = packfile_ends_later (repo.pack q) at packets h
 
-ends_by : (repo : Repository) (q : FetchAsked) (b : Bool) (packets : List Pkt) → IsFetchAnswerBy b whole repo q packets → flushes packets ≡ 1
+ends_by : (repo : Repository) (q : List Arg) (b : Bool) (packets : List Pkt) → IsFetchAnswerBy b whole repo q packets → flushes packets ≡ 1
 ends_by repo q true packets h = fetch_ends_later repo q (Acknowledgments AcknowledgmentsHeader) packets h
 ends_by repo q false packets h = fetch_ends_later repo q (ShallowInfo Header) packets h
 
-pub fetch_ends_once : (repo : Repository) (q : FetchAsked) (packets : List Pkt) → IsFetchAnswer whole repo q packets → flushes packets ≡ 1
+pub fetch_ends_once : (repo : Repository) (q : List Arg) (packets : List Pkt) → IsFetchAnswer whole repo q packets → flushes packets ≡ 1
 fetch_ends_once repo q packets h = ends_by repo q (negotiates q) packets h
 
 -- an answer that breaks off has none
@@ -205,26 +207,26 @@ after_none : (first : List Pkt) (P : List Pkt → Type 0) (packets : List Pkt) �
     → IsAfter first P packets → flushes packets ≡ 0
 after_none first P packets none others h = omega (arith, ap flushes h.packets_are, flushes-append first h.others, none, others h.others h.holds)
 
-broken_refs : (repo : Repository) (q : FetchAsked) (packets : List Pkt) → EndsWithRefs broken repo q packets → flushes packets ≡ 0
+broken_refs : (repo : Repository) (q : List Arg) (packets : List Pkt) → EndsWithRefs broken repo q packets → flushes packets ≡ 0
 broken_refs repo q packets =
-    after_none (wanted_refs repo q.want_refs) (IsPackfile broken (repo.pack q)) packets (wanted_has_none repo q.want_refs Header)
+    after_none (wanted_refs repo (want_refs_in q)) (IsPackfile broken (repo.pack q)) packets (wanted_has_none repo (want_refs_in q) Header)
     (broken_packfile_has_none (repo.pack q))
 
-broken_boundary : (repo : Repository) (q : FetchAsked) (packets : List Pkt) → EndsWithBoundary broken repo q packets → flushes packets ≡ 0
+broken_boundary : (repo : Repository) (q : List Arg) (packets : List Pkt) → EndsWithBoundary broken repo q packets → flushes packets ≡ 0
 broken_boundary repo q packets =
     after_none (shallow_info (repo.boundaries q)) (EndsWithRefs broken repo q) packets (boundary_has_none (repo.boundaries q) Header) (broken_refs repo q)
 
-broken_negotiated : (ready : Bool) (repo : Repository) (q : FetchAsked) (lines packets : List Pkt) → flushes lines ≡ 0
+broken_negotiated : (ready : Bool) (repo : Repository) (q : List Arg) (lines packets : List Pkt) → flushes lines ≡ 0
     → IsNegotiated ready lines broken repo q packets → flushes packets ≡ 0
 broken_negotiated true repo q lines packets none h =
     let no_flush = flushes-append lines ready_lines in
     after_none (lines ++ ready_lines) (EndsWithBoundary broken repo q) packets (omega (arith, no_flush, none)) (broken_boundary repo q) h
 broken_negotiated false repo q lines packets none h = absurd h
 
-broken_by : (repo : Repository) (q : FetchAsked) (b : Bool) (packets : List Pkt) → IsFetchAnswerBy b broken repo q packets → flushes packets ≡ 0
+broken_by : (repo : Repository) (q : List Arg) (b : Bool) (packets : List Pkt) → IsFetchAnswerBy b broken repo q packets → flushes packets ≡ 0
 broken_by repo q true packets h =
     broken_negotiated (is_ready_for repo q) repo q (acknowledgments repo q) packets (acknowledgments_have_none repo q AcknowledgmentsHeader) h
 broken_by repo q false packets h = broken_boundary repo q packets h
 
-pub broken_fetch_has_none : (repo : Repository) (q : FetchAsked) (packets : List Pkt) → IsFetchAnswer broken repo q packets → flushes packets ≡ 0
+pub broken_fetch_has_none : (repo : Repository) (q : List Arg) (packets : List Pkt) → IsFetchAnswer broken repo q packets → flushes packets ≡ 0
 broken_fetch_has_none repo q packets h = broken_by repo q (negotiates q) packets h

@@ -3,7 +3,6 @@ use Rattle.std.proofs.Common.{arith, ◌≡◌, ◌≤◌, ℕ, List, length, ta
 use Rattle.std.proofs.lemmas.Grind.{common_steps}
 use Rattle.git_pkt.specs.Packets.{Pkt, body_of, longest_payload}
 use Rattle.git_pkt.specs.declared.reader.PacketReader.{PacketReader}
-use Rattle.git_msg.specs.Asked.{FetchAsked}
 use Rattle.git_server.specs.Machine.FullParts.{FillsAnswer, FillsFetch, FillsPart, FillsPhase, IsFullPart}
 use Rattle.git_server.specs.Machine.PackParts.{IsGiven, IsPartRead, WritesPart, part_packet}
 use Rattle.git_server.specs.Machine.Phases.{turn_in}
@@ -21,6 +20,7 @@ use Rattle.git_server.specs.declared.packfile.PackPlace.{PackPlace}
 use Rattle.git_server.specs.declared.packfile.PackPlace.TheVariants.{Header, Pack}
 use Rattle.git_server.specs.declared.packfile.PartRead.{PartRead}
 use Rattle.git_server.specs.declared.packfile.PartRead.TheVariants.{Bytes, End, Failed}
+use Rattle.git_msg.specs.Arguments.{Arg}
 
 full_part : (gives : ℕ → ℕ → Type 0) (pack space : List ℕ) (offset : ℕ) (part : PartRead) → IsPartRead pack offset space part → IsGiven gives part
     → IsFullPart gives (part_packet space part)
@@ -57,7 +57,7 @@ module _ (Is Also : Pkt → Type 0) (then : (packet : Pkt) → length (body_of p
   fetch_so gives (WantedRefs place) h = tt
   fetch_so gives (Packfile place) h = part_so gives place h
 
-  module _ {A : Type 0} (gives : FetchAsked → ℕ → ℕ → ℕ → Type 0) where
+  module _ {A : Type 0} (gives : List Arg → ℕ → ℕ → ℕ → Type 0) where
     answer_so : (answer : Answer A) → FillsAnswer gives answer Is → FillsAnswer gives answer Also
     answer_so (References request next) h = tt
     answer_so (Fetching request place) h = fetch_so (gives request.asked) place h
@@ -72,7 +72,7 @@ module _ (Is Also : Pkt → Type 0) (then : (packet : Pkt) → length (body_of p
     filled_so (Ended outcome) h = tt
 
 -- nothing is pending of a pack where the session has ended
-pub ended_fills : {A : Type 0} (gives : FetchAsked → ℕ → ℕ → ℕ → Type 0) (Is : Pkt → Type 0) (phase : Phase A) (outcome : Outcome)
+pub ended_fills : {A : Type 0} (gives : List Arg → ℕ → ℕ → ℕ → Type 0) (Is : Pkt → Type 0) (phase : Phase A) (outcome : Outcome)
     → turn_in phase ≡ Finished outcome → FillsPhase gives phase Is
 ended_fills gives Is (Advertising line) outcome h = tt
 ended_fills gives Is Between outcome h = tt

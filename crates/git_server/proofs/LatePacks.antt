@@ -2,11 +2,12 @@
 use Rattle.std.proofs.Common.{arith, ◌≡◌, ℕ, Bool, true, false, Option, Some, None, List, refl, sym, ap, subst, ◌∙◌}
 use mathlib.Core.Path.{fun_ext}
 use Rattle.git_pkt.specs.Packets.{Pkt}
-use Rattle.git_msg.specs.Arguments.{Arg, Value, Word, id_value, text_value, want, want_ref}
-use Rattle.git_msg.specs.Asked.{FetchAsked}
+use Rattle.git_msg.specs.Arguments.{Arg, with_id, with_text}
+use Rattle.git_msg.specs.declared.words.ObjectWord.{ObjectWord}
+use Rattle.git_msg.specs.declared.words.TextWord.{TextWord}
 use Rattle.git_msg.specs.declared.offers.Offer.{Offer}
 use Rattle.git_server.specs.Repository.{Repository, RepoState}
-use Rattle.git_server.specs.Admission.{barred, barred_value}
+use Rattle.git_server.specs.Admission.{barred}
 use Rattle.git_server.specs.FetchAnswers.{IsNegotiated, is_ready_for}
 use Rattle.git_server.specs.Packs.{Manner, whole, broken}
 use Rattle.git_server.specs.Machine.AnsweredRequest.{IsAnswerFrom}
@@ -33,23 +34,23 @@ use Rattle.git_server.specs.declared.server.Phase.TheVariants.{Advertising, Betw
 use Rattle.git_server.specs.declared.server.Server.{Server}
 
 -- acknowledgments that no pack follows do not depend on it
-negotiated : (ready : Bool) (lines : List Pkt) (manner : Manner) (a b : Repository) (q : FetchAsked) (later : List Pkt) → ready ≡ false
+negotiated : (ready : Bool) (lines : List Pkt) (manner : Manner) (a b : Repository) (q : List Arg) (later : List Pkt) → ready ≡ false
     → IsNegotiated ready lines manner a q later → IsNegotiated ready lines manner b q later
 negotiated true lines manner a b q later none h = absurd (cc)
 negotiated false lines manner a b q later none h = h
 
-unbroken_negotiated : (ready : Bool) (lines : List Pkt) (repo : Repository) (q : FetchAsked) (later : List Pkt) → ready ≡ false
+unbroken_negotiated : (ready : Bool) (lines : List Pkt) (repo : Repository) (q : List Arg) (later : List Pkt) → ready ≡ false
     → IsNegotiated ready lines broken repo q later → ⊥
 unbroken_negotiated true lines repo q later none h = cc
 unbroken_negotiated false lines repo q later none h = h
 
-module _ (repo : Repository) (packs : FetchAsked → List ℕ) where
-  lines_same : (q : FetchAsked) (place : AcknowledgmentsPlace) → acknowledgments_from (with_packs packs repo) q place ≡ acknowledgments_from repo q place
+module _ (repo : Repository) (packs : List Arg → List ℕ) where
+  lines_same : (q : List Arg) (place : AcknowledgmentsPlace) → acknowledgments_from (with_packs packs repo) q place ≡ acknowledgments_from repo q place
   lines_same q Header = refl
   lines_same q (Have next announced) = refl
   lines_same q Through = refl
 
-  fetch_known : (manner : Manner) (q : FetchAsked) (place : FetchPlace) (later : List Pkt) → HasNoPackFrom repo q place
+  fetch_known : (manner : Manner) (q : List Arg) (place : FetchPlace) (later : List Pkt) → HasNoPackFrom repo q place
       → IsFetchFrom manner (with_packs packs repo) q place later → IsFetchFrom manner repo q place later
   fetch_known manner q (Acknowledgments place) later none h =
       negotiated (is_ready_for repo q) (acknowledgments_from repo q place) manner (with_packs packs repo) repo q later none
@@ -59,7 +60,7 @@ module _ (repo : Repository) (packs : FetchAsked → List ℕ) where
   fetch_known manner q (WantedRefs place) later none h = absurd none
   fetch_known manner q (Packfile place) later none h = absurd none
 
-  fetch_any : (manner : Manner) (q : FetchAsked) (place : FetchPlace) (later : List Pkt) → HasNoPackFrom repo q place
+  fetch_any : (manner : Manner) (q : List Arg) (place : FetchPlace) (later : List Pkt) → HasNoPackFrom repo q place
       → IsFetchFrom manner repo q place later → IsFetchFrom manner (with_packs packs repo) q place later
   fetch_any manner q (Acknowledgments place) later none h =
       subst (λ (ls : List Pkt). IsNegotiated (is_ready_for repo q) ls manner (with_packs packs repo) q later) (sym (lines_same q place))
@@ -127,14 +128,14 @@ module _ (repo : Repository) (packs : FetchAsked → List ℕ) where
     breaks_any (Refusing fault) later none h = h
     breaks_any (Ended outcome) later none h = h
 
-  value_barred : (word : Word) (value : Value) → barred_value (with_packs packs repo) word value ≡ barred_value repo word value
-  value_barred want (id_value id) = refl
-  value_barred want_ref (text_value name) = refl
-  value_barred word value = refl
+  arg_barred : (arg : Arg) → barred (with_packs packs repo) arg ≡ barred repo arg
+  arg_barred (with_id ObjectWord.Want id) = refl
+  arg_barred (with_text TextWord.WantRef name) = refl
+  arg_barred arg = refl
 
   -- what a repository refuses of a request is the same
   pub barred_same : barred (with_packs packs repo) ≡ barred repo
-  barred_same = fun_ext (λ (arg : Arg). value_barred arg.word arg.value)
+  barred_same = fun_ext arg_barred
 
 -- an answer that has no byte of a pack does not break off
 pub unbroken : {A : Type 0} (repo : Repository) (answer : Answer A) (later : List Pkt) → HasNoPack repo answer → IsAnswerFrom broken repo answer later → ⊥
@@ -148,7 +149,7 @@ unbroken repo (Fetching request (Packfile place)) later none h = none
 unbroken repo (Sizes request place) later none h = h
 
 -- what stays as it is does so with any packs
-pub keeps_any : {R A : Type 0} (state : R → RepoState) (old new : Server R A) (packs : FetchAsked → List ℕ) → Keeps state old new
+pub keeps_any : {R A : Type 0} (state : R → RepoState) (old new : Server R A) (packs : List Arg → List ℕ) → Keeps state old new
     → Keeps (state_with packs state) old new
 keeps_any state old new packs keeps = record {
   offer = keeps.offer;

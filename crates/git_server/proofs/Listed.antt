@@ -1,7 +1,6 @@
 -- One packet more of an answer for references, once the prefixes of its request are in order.
 use Rattle.std.proofs.Common.{arith, ◌≡◌, length, List, ◌∷◌, ap, sym, ◌∙◌, subst}
 use Rattle.git_pkt.specs.Packets.{Pkt}
-use Rattle.git_msg.specs.Asked.{LsRefsAsked}
 use Rattle.git_msg.specs.Kept.{Kept}
 use Rattle.git_msg.specs.Prefixes.{OrdersPrefixes}
 use Rattle.git_server.specs.Repository.{Repository}
@@ -12,8 +11,9 @@ use Rattle.git_server.specs.declared.answer.Answer.TheVariants.{References}
 use Rattle.git_server.specs.declared.answer.Answered.TheVariants.{Part}
 use Rattle.git_server.specs.declared.ls_refs.ReferencesPlace.{ReferencesPlace}
 use Rattle.git_server.proofs.Skipped.{alike_answers}
+use Rattle.git_msg.specs.Arguments.{Arg}
 
-module _ (repo : Repository) (old new : Kept LsRefsAsked) (place after : ReferencesPlace) (packet : Pkt) (orders : OrdersPrefixes old new)
+module _ (repo : Repository) (old new : Kept (List Arg)) (place after : ReferencesPlace) (packet : Pkt) (orders : OrdersPrefixes old new)
     (unsent : references_from new.asked repo place ≡ packet ∷ references_from new.asked repo after) where
   one_listed : references_from old.asked repo place ≡ packet ∷ references_from new.asked repo after
   one_listed = sym (alike_answers old new repo place orders) ∙ unsent

@@ -9,7 +9,7 @@ use Rattle.git_pkt.specs.declared.band.Band.TheVariants.{Pack}
 use Rattle.git_pkt.specs.declared.fault.Fault.{Fault}
 use Rattle.git_pkt.specs.declared.fault.Kind.{Kind}
 use Rattle.git_pkt.specs.declared.fault.Kind.TheVariants.{PackSource}
-use Rattle.git_msg.specs.Asked.{Asked, FetchAsked, ls_refs, fetch, object_info}
+use Rattle.git_msg.specs.Asked.{Asked, ls_refs, fetch, object_info, want_refs_in}
 use Rattle.git_server.specs.Repository.{Repository}
 use Rattle.git_server.specs.Packs.{whole, EndsWhole, IsPackfile, packfile_header}
 use Rattle.git_server.specs.FetchAnswers.{acknowledgments, is_ready_for, negotiates, ready_lines, shallow_info, wanted_refs}
@@ -22,6 +22,7 @@ use Rattle.git_server.specs.declared.outcome.Outcome.TheVariants.{Flush, Closed,
 use Rattle.git_server.proofs.Begun.{begun_has_no_flush}
 use Rattle.git_server.proofs.OneOutcome.{none_at_end, one_left, one_outcome}
 use Rattle.git_server.proofs.OneSession.{no_request}
+use Rattle.git_msg.specs.Arguments.{Arg}
 
 contents-append : (ps qs : List Pkt) → contents_of_all (ps ++ qs) ≡ contents_of_all ps ++ contents_of_all qs
 contents-append ps qs = flat_map-append _ ps qs
@@ -66,9 +67,9 @@ after_same first P same a b h k =
 equal_same : (packets a b : List Pkt) → a ≡ packets → b ≡ packets → contents_of_all a ≡ contents_of_all b
 equal_same packets a b h k = ap contents_of_all (h ∙ sym k)
 
-module _ (repo : Repository) (q : FetchAsked) where
+module _ (repo : Repository) (q : List Arg) where
   refs_same : IsSameIn (EndsWithRefs whole repo q)
-  refs_same = after_same (wanted_refs repo q.want_refs) (IsPackfile whole (repo.pack q)) (packfiles_same (repo.pack q))
+  refs_same = after_same (wanted_refs repo (want_refs_in q)) (IsPackfile whole (repo.pack q)) (packfiles_same (repo.pack q))
 
   boundary_same : IsSameIn (EndsWithBoundary whole repo q)
   boundary_same = after_same (shallow_info (repo.boundaries q)) (EndsWithRefs whole repo q) refs_same

@@ -9,7 +9,7 @@ use Rattle.git_pkt.proofs.Written.{spells_written}
 use Rattle.git_pkt.specs.Splits.{Given}
 use Rattle.git_pkt.proofs.Streams.{one_split}
 use Rattle.git_msg.specs.declared.offers.Offer.{Offer}
-use Rattle.git_msg.specs.Asked.{Asked, LsRefsAsked, ObjectInfoAsked, ls_refs, fetch, object_info}
+use Rattle.git_msg.specs.Asked.{Asked, ls_refs, fetch, object_info, oids_in, ref_prefixes_in, peel_in, symrefs_in}
 use Rattle.git_msg.specs.References.{reference_text}
 use Rattle.git_msg.specs.ResponseLines.{info_text}
 use Rattle.git_msg.specs.WrittenRequest.{text_line}
@@ -39,6 +39,7 @@ use Rattle.git_server.proofs.FetchPackets.{fetch_ends_once, fetch_ends_later}
 use Rattle.git_server.proofs.Begun.{begun_has_no_flush}
 use Rattle.git_server.proofs.Sent.{is_whole}
 use Rattle.git_server.proofs.Going.{goes_on, no_outcome, nothing_unsent, some_unsent}
+use Rattle.git_msg.specs.Arguments.{Arg}
 
 module _ (s : Setting) where
   pub no_request : (left : List Given) → NoFlush left → NoRequest (IsRequest s) left
@@ -65,24 +66,24 @@ unborn_has_none : (target : List ℕ) (asked : Bool) → flushes (if asked then 
 unborn_has_none target true = refl
 unborn_has_none target false = refl
 
-unborn_have_none : (q : LsRefsAsked) (head : Option (List ℕ)) → flushes (unborn_packets q head) ≡ 0
+unborn_have_none : (q : List Arg) (head : Option (List ℕ)) → flushes (unborn_packets q head) ≡ 0
 unborn_have_none q None = refl
 unborn_have_none q (Some target) = unborn_has_none target (asks_for_unborn q)
 
 -- from each place on an answer for references has one flush
-references_end : (q : LsRefsAsked) (repo : Repository) (place : ReferencesPlace) → flushes (references_from q repo place) ≡ 1
+references_end : (q : List Arg) (repo : Repository) (place : ReferencesPlace) → flushes (references_from q repo place) ≡ 1
 references_end q repo First =
     let split = flushes-append (unborn_packets q repo.unborn_head) (reference_packets q repo.refs) in
-    omega (arith, split, unborn_have_none q repo.unborn_head, refs_end q.symrefs q.peel (shown_refs q.ref_prefixes repo.refs))
-references_end q repo (EntryPlace next) = refs_end q.symrefs q.peel (shown_refs q.ref_prefixes (drop next repo.refs))
+    omega (arith, split, unborn_have_none q repo.unborn_head, refs_end (symrefs_in q) (peel_in q) (shown_refs (ref_prefixes_in q) repo.refs))
+references_end q repo (EntryPlace next) = refs_end (symrefs_in q) (peel_in q) (shown_refs (ref_prefixes_in q) (drop next repo.refs))
 
 infos_end : (repo : Repository) (ids : List ObjectName)
     → flushes (map (λ id. text_line (info_text (record { id = id; size = repo.object_size id }))) ids ++ flush ∷ []) ≡ 1
 infos_end repo ids = ends_once (λ id. info_text (record { id = id; size = repo.object_size id })) ids
 
-sizes_end : (q : ObjectInfoAsked) (repo : Repository) (place : SizesPlace) → flushes (sizes_from q repo place) ≡ 1
-sizes_end q repo SizesHeader = infos_end repo q.oids
-sizes_end q repo (Object next) = infos_end repo (drop next q.oids)
+sizes_end : (q : List Arg) (repo : Repository) (place : SizesPlace) → flushes (sizes_from q repo place) ≡ 1
+sizes_end q repo SizesHeader = infos_end repo (oids_in q)
+sizes_end q repo (Object next) = infos_end repo (drop next (oids_in q))
 
 -- an answer has one flush
 pub answer_ends : (repo : Repository) (q : Asked) (answer : List Pkt) → IsAnswer repo q answer → flushes answer ≡ 1

@@ -10,7 +10,7 @@ use Rattle.std.proofs.lemmas.List.{get_or_default}
 use Rattle.std.proofs.lemmas.List.Folds.{list_any_at, list_any_none}
 use Rattle.std.proofs.lemmas.Option.{get_or_from_slice_get, slice_get_cases}
 use Rattle.std.proofs.lemmas.List.Sorted.{ranks_by, sorted_far}
-use Rattle.git_msg.specs.Asked.{LsRefsAsked}
+use Rattle.git_msg.specs.Asked.{ref_prefixes_in}
 use Rattle.git_msg.specs.Kept.{Kept}
 use Rattle.git_msg.specs.Prefixes.{IsOrdered, OrdersPrefixes, SplitsAt, ShowAlike, goes_before, begins, is_shown, text_cmp}
 use Rattle.git_server.specs.Repository.{Entry, Repository, IsRising, comes_before}
@@ -21,6 +21,7 @@ use Rattle.git_server.specs.declared.ls_refs.ReferencesPlace.TheVariants.{First,
 use Rattle.git_pkt.specs.Packets.{Pkt}
 use Rattle.git_msg.proofs.TextOrder.{between, le_itself, le_from_no_lt, no_le_from_lt, no_lt_back, lt_from_le_lt, lt_from_lt_le}
 use Rattle.git_msg.proofs.PrefixOrder.{no_begin}
+use Rattle.git_msg.specs.Arguments.{Arg}
 
 -- a reference's name does not come after that of a later one
 pub names_rise : (refs : List Entry) → IsRising refs → (i j : ℕ) (d : Entry) → i ≤ j → j < length refs
@@ -113,17 +114,17 @@ alike_refs ps qs [] alike = refl
 alike_refs ps qs (e ∷ refs) alike = rw (alike e.name, alike_refs ps qs refs alike) refl
 
 -- a request whose prefixes were put in order is answered as it was
-alike_packets : (old new : Kept LsRefsAsked) (refs : List Entry) → OrdersPrefixes old new
+alike_packets : (old new : Kept (List Arg)) (refs : List Entry) → OrdersPrefixes old new
     → reference_packets new.asked refs ≡ reference_packets old.asked refs
 alike_packets old new refs orders =
-    rw (orders.symrefs, orders.peel, ← alike_refs old.asked.ref_prefixes new.asked.ref_prefixes refs orders.alike) refl
+    rw (orders.symrefs, orders.peel, ← alike_refs (ref_prefixes_in old.asked) (ref_prefixes_in new.asked) refs orders.alike) refl
 
-alike_unborn : (old new : Kept LsRefsAsked) (head : Option (List ℕ)) → OrdersPrefixes old new
+alike_unborn : (old new : Kept (List Arg)) (head : Option (List ℕ)) → OrdersPrefixes old new
     → unborn_packets new.asked head ≡ unborn_packets old.asked head
 alike_unborn old new None orders = refl
 alike_unborn old new (Some target) orders = rw (orders.symrefs, orders.unborn, ← orders.alike (codes "HEAD")) refl
 
-pub alike_answers : (old new : Kept LsRefsAsked) (repo : Repository) (place : ReferencesPlace) → OrdersPrefixes old new
+pub alike_answers : (old new : Kept (List Arg)) (repo : Repository) (place : ReferencesPlace) → OrdersPrefixes old new
     → references_from new.asked repo place ≡ references_from old.asked repo place
 alike_answers old new repo First orders =
     ap (λ (ps : List Pkt). ps ++ reference_packets new.asked repo.refs) (alike_unborn old new repo.unborn_head orders)

@@ -23,6 +23,7 @@ use Rattle.git_server.specs.declared.outcome.Outcome.TheVariants.{Refused}
 use Rattle.git_server.specs.declared.server.Phase.{Phase}
 use Rattle.git_server.specs.declared.server.Phase.TheVariants.{Advertising, Between, Answering, Refusing}
 use Rattle.git_server.proofs.FetchPackets.{some_of_fetch}
+use Rattle.git_msg.specs.Asked.{oids_in, ref_prefixes_in, peel_in, symrefs_in}
 
 option_lines : (offer : Offer) (b : Bool)
     → offered_line b (codes "server-option") ++ format_on offer ≡ advertisement_from offer (if b then ServerOption else ObjectFormat)
@@ -104,12 +105,12 @@ module _ {A : Type 0} where
   -- something of an answer that is not whole is left
   pub some_left : (repo : Repository) (answer : Answer A) → 0 < most_from repo answer
   some_left repo (References request First) = some_after (unborn_packets request.asked repo.unborn_head)
-      (map (reference_packet request.asked.symrefs request.asked.peel) (shown_refs request.asked.ref_prefixes repo.refs))
-  some_left repo (References request (Entry next)) = some_packets (map (reference_packet request.asked.symrefs request.asked.peel)
-      (shown_refs request.asked.ref_prefixes (drop next repo.refs)))
+      (map (reference_packet (symrefs_in request.asked) (peel_in request.asked)) (shown_refs (ref_prefixes_in request.asked) repo.refs))
+  some_left repo (References request (Entry next)) = some_packets (map (reference_packet (symrefs_in request.asked) (peel_in request.asked))
+      (shown_refs (ref_prefixes_in request.asked) (drop next repo.refs)))
   some_left repo (Fetching request place) = some_of_fetch repo request.asked place
   some_left repo (Sizes request SizesHeader) = omega arith
-  some_left repo (Sizes request (Object next)) = some_packets (map (info_packet repo) (drop next request.asked.oids))
+  some_left repo (Sizes request (Object next)) = some_packets (map (info_packet repo) (drop next (oids_in request.asked)))
 
   module _ (offer : Offer) (repo : Repository) (old : Phase A) (answer : Answer A) (offset : ℕ) (packet : Pkt) (was : old ≡ Answering answer offset) where
     -- one packet of an answer, and more of it

@@ -5,8 +5,9 @@ use Rattle.std.specs.Ordering.{is_eq}
 use Rattle.git_names.specs.ObjectName.{ObjectName}
 use Rattle.git_msg.specs.declared.Boundary.{Boundary}
 use Rattle.git_msg.specs.declared.Boundary.TheVariants.{Shallow, Unshallow}
-use Rattle.git_msg.specs.Asked.{FetchAsked, is_empty}
+use Rattle.git_msg.specs.Asked.{is_empty, deepen_in, deepen_nots_in, deepen_since_in, shallows_in}
 use Rattle.git_server.specs.Objects.{object_cmp}
+use Rattle.git_msg.specs.Arguments.{Arg}
 
 -- whether this number of common objects is enough to send a pack
 abbrev pub is_enough : Option ℕ → ℕ → Bool
@@ -14,8 +15,8 @@ is_enough None count = false
 is_enough (Some least) count = nat_le least count
 
 -- whether the request cuts the history off
-abbrev pub is_deepened : FetchAsked → Bool
-is_deepened q = is_some q.deepen || (is_some q.deepen_since || not (is_empty q.deepen_nots))
+abbrev pub is_deepened : List Arg → Bool
+is_deepened q = is_some (deepen_in q) || (is_some (deepen_since_in q) || not (is_empty (deepen_nots_in q)))
 
 -- whether this is a `shallow` line
 abbrev pub is_shallow_line : Boundary → Bool
@@ -33,5 +34,5 @@ abbrev pub announced_lines : List Boundary → List ObjectName → List Boundary
 announced_lines lines shallows = filter is_shallow_line lines ++ filter (is_unshallow_line shallows) lines
 
 -- the shallow boundary for a request, which is there if the request cuts the history off
-abbrev pub boundary_for : List Boundary → FetchAsked → List Boundary
-boundary_for lines q = if is_deepened q then announced_lines lines q.shallows else []
+abbrev pub boundary_for : List Boundary → List Arg → List Boundary
+boundary_for lines q = if is_deepened q then announced_lines lines (shallows_in q) else []

@@ -8,7 +8,7 @@ use Rattle.git_pkt.specs.declared.fault.Kind.{Kind}
 use Rattle.git_pkt.specs.declared.fault.Kind.TheVariants.{RemoteError}
 use Rattle.git_msg.specs.declared.offers.Offer.{Offer}
 use Rattle.git_names.specs.ObjectName.{ObjectName}
-use Rattle.git_msg.specs.Asked.{Asked, LsRefsAsked, ObjectInfoAsked, ls_refs, fetch, object_info}
+use Rattle.git_msg.specs.Asked.{Asked, ls_refs, fetch, object_info, oids_in, ref_prefixes_in, peel_in, symrefs_in, unborn_in}
 use Rattle.git_msg.specs.Features.{capability_text, fetch_features, ls_refs_features}
 use Rattle.git_msg.specs.WrittenRequest.{text_line, agent_line, format_line}
 use Rattle.git_msg.specs.References.{Ref, reference_of, reference_text}
@@ -17,6 +17,7 @@ pub use Rattle.git_msg.specs.Prefixes.{is_empty, is_shown}
 use Rattle.git_server.specs.Repository.{Entry, Repository}
 use Rattle.git_server.specs.Packs.{Manner, whole, broken}
 use Rattle.git_server.specs.FetchAnswers.{IsFetchAnswer}
+use Rattle.git_msg.specs.Arguments.{Arg}
 
 -- the bytes of the packets as they are written
 abbrev pub spelled : List Pkt → List ℕ
@@ -68,24 +69,24 @@ abbrev pub unborn_packet : List ℕ → Pkt
 unborn_packet target = text_line (reference_text (reference_of None (codes "HEAD") (Some target) None))
 
 -- whether the request asks for that: for unborn references and for targets of references, with prefixes that show `HEAD`
-abbrev pub asks_for_unborn : LsRefsAsked → Bool
-asks_for_unborn q = q.unborn && q.symrefs && is_shown q.ref_prefixes (codes "HEAD")
+abbrev pub asks_for_unborn : List Arg → Bool
+asks_for_unborn q = (unborn_in q) && (symrefs_in q) && is_shown (ref_prefixes_in q) (codes "HEAD")
 
 -- it comes first, if it is asked for and `HEAD` is unborn
-abbrev pub unborn_packets : LsRefsAsked → Option (List ℕ) → List Pkt
+abbrev pub unborn_packets : List Arg → Option (List ℕ) → List Pkt
 unborn_packets q None = []
 unborn_packets q (Some target) = if asks_for_unborn q then unborn_packet target ∷ [] else []
 
 -- the packets of these references, and the flush
-abbrev pub reference_packets : LsRefsAsked → List Entry → List Pkt
-reference_packets q refs = map (reference_packet q.symrefs q.peel) (shown_refs q.ref_prefixes refs) ++ flush ∷ []
+abbrev pub reference_packets : List Arg → List Entry → List Pkt
+reference_packets q refs = map (reference_packet (symrefs_in q) (peel_in q)) (shown_refs (ref_prefixes_in q) refs) ++ flush ∷ []
 
 -- the answer to a request for references
-abbrev pub ls_refs_answer : LsRefsAsked → Repository → List Pkt
+abbrev pub ls_refs_answer : List Arg → Repository → List Pkt
 ls_refs_answer q repo = unborn_packets q repo.unborn_head ++ reference_packets q repo.refs
 
 -- the packets are an answer for references, which never breaks off
-abbrev pub IsReferencesAnswer : Manner → LsRefsAsked → Repository → List Pkt → Type 0
+abbrev pub IsReferencesAnswer : Manner → List Arg → Repository → List Pkt → Type 0
 IsReferencesAnswer whole q repo packets = packets ≡ ls_refs_answer q repo
 IsReferencesAnswer broken q repo packets = ⊥
 
@@ -94,11 +95,11 @@ abbrev pub info_packet : Repository → ObjectName → Pkt
 info_packet repo id = text_line (info_text (record { id = id; size = repo.object_size id }))
 
 -- the answer to a request for the sizes of objects
-abbrev pub object_info_answer : ObjectInfoAsked → Repository → List Pkt
-object_info_answer q repo = text_line (codes "size") ∷ (map (info_packet repo) q.oids ++ flush ∷ [])
+abbrev pub object_info_answer : List Arg → Repository → List Pkt
+object_info_answer q repo = text_line (codes "size") ∷ (map (info_packet repo) (oids_in q) ++ flush ∷ [])
 
 -- the packets are an answer about objects, which never breaks off
-abbrev pub IsObjectInfoAnswer : Manner → ObjectInfoAsked → Repository → List Pkt → Type 0
+abbrev pub IsObjectInfoAnswer : Manner → List Arg → Repository → List Pkt → Type 0
 IsObjectInfoAnswer whole q repo packets = packets ≡ object_info_answer q repo
 IsObjectInfoAnswer broken q repo packets = ⊥
 

@@ -5,18 +5,20 @@ use Rattle.std.specs.Option.{option_map}
 use Rattle.git_names.specs.ObjectName.{ObjectName}
 use Rattle.git_pkt.specs.Packets.{Pkt, flush, delim}
 use Rattle.git_msg.specs.declared.Boundary.{Boundary}
-use Rattle.git_msg.specs.Asked.{FetchAsked, fetch, is_empty, only_negotiates, wait_for_done_of}
+use Rattle.git_msg.specs.Asked.{fetch, is_empty, only_negotiates, done_in, haves_in, want_refs_in, flag_among}
 use Rattle.git_msg.specs.ResponseLines.{ack_text, boundary_text, wanted_of, wanted_text}
 use Rattle.git_msg.specs.WrittenRequest.{text_line}
 use Rattle.git_server.specs.Repository.{Repository, found_ref}
 use Rattle.git_server.specs.Packs.{Manner, whole, broken, IsPackfile}
+use Rattle.git_msg.specs.Arguments.{Arg}
+use Rattle.git_msg.specs.declared.flags.Flag.{Flag}
 
 -- whether the request negotiates: it has `have` lines or `wait-for-done`, and not `done`
-abbrev pub negotiates : FetchAsked → Bool
-negotiates q = (not (is_empty q.haves) || wait_for_done_of (fetch q)) && not q.done
+abbrev pub negotiates : List Arg → Bool
+negotiates q = (not (is_empty (haves_in q)) || flag_among q Flag.WaitForDone) && not (done_in q)
 
 -- whether the pack follows if the request negotiates: the request does more than negotiate, and the repository is ready for it
-abbrev pub is_ready_for : Repository → FetchAsked → Bool
+abbrev pub is_ready_for : Repository → List Arg → Bool
 is_ready_for repo q = not (only_negotiates q) && repo.is_ready q
 
 -- the objects that both the client and the repository have, as often as they are named
@@ -37,8 +39,8 @@ abbrev pub ready_lines : List Pkt
 ready_lines = text_line (codes "ready") ∷ delim ∷ []
 
 -- the section of acknowledgments, without its end
-abbrev pub acknowledgments : Repository → FetchAsked → List Pkt
-acknowledgments repo q = text_line (codes "acknowledgments") ∷ nak_or_acks (common repo.has q.haves)
+abbrev pub acknowledgments : Repository → List Arg → List Pkt
+acknowledgments repo q = text_line (codes "acknowledgments") ∷ nak_or_acks (common repo.has (haves_in q))
 
 -- a section before others: its header, its lines, and a delimiter
 abbrev pub section : List ℕ → List Pkt → List Pkt
@@ -69,11 +71,11 @@ pub record IsAfter (first : List Pkt) (P : List Pkt → Type 0) (packets : List 
   pub packets_are : packets ≡ first ++ others
 
 -- from the section of wanted references on
-abbrev pub EndsWithRefs : Manner → Repository → FetchAsked → List Pkt → Type 0
-EndsWithRefs manner repo q = IsAfter (wanted_refs repo q.want_refs) (IsPackfile manner (repo.pack q))
+abbrev pub EndsWithRefs : Manner → Repository → List Arg → List Pkt → Type 0
+EndsWithRefs manner repo q = IsAfter (wanted_refs repo (want_refs_in q)) (IsPackfile manner (repo.pack q))
 
 -- from the section of the shallow boundary on
-abbrev pub EndsWithBoundary : Manner → Repository → FetchAsked → List Pkt → Type 0
+abbrev pub EndsWithBoundary : Manner → Repository → List Arg → List Pkt → Type 0
 EndsWithBoundary manner repo q = IsAfter (shallow_info (repo.boundaries q)) (EndsWithRefs manner repo q)
 
 -- an answer with acknowledgments alone, which never breaks off
@@ -82,14 +84,14 @@ IsFlushed whole lines packets = packets ≡ lines ++ flush ∷ []
 IsFlushed broken lines packets = ⊥
 
 -- the packets after these lines of the section of acknowledgments: the pack, if it follows, otherwise nothing
-abbrev pub IsNegotiated : Bool → List Pkt → Manner → Repository → FetchAsked → List Pkt → Type 0
+abbrev pub IsNegotiated : Bool → List Pkt → Manner → Repository → List Arg → List Pkt → Type 0
 IsNegotiated true lines manner repo q = IsAfter (lines ++ ready_lines) (EndsWithBoundary manner repo q)
 IsNegotiated false lines manner repo q = IsFlushed manner lines
 
 -- the packets are an answer to the fetch
-abbrev pub IsFetchAnswerBy : Bool → Manner → Repository → FetchAsked → List Pkt → Type 0
+abbrev pub IsFetchAnswerBy : Bool → Manner → Repository → List Arg → List Pkt → Type 0
 IsFetchAnswerBy true manner repo q = IsNegotiated (is_ready_for repo q) (acknowledgments repo q) manner repo q
 IsFetchAnswerBy false manner repo q = EndsWithBoundary manner repo q
 
-abbrev pub IsFetchAnswer : Manner → Repository → FetchAsked → List Pkt → Type 0
+abbrev pub IsFetchAnswer : Manner → Repository → List Arg → List Pkt → Type 0
 IsFetchAnswer manner repo q = IsFetchAnswerBy (negotiates q) manner repo q

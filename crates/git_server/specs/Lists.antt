@@ -4,7 +4,7 @@ use Rattle.std.specs.Option.{ForSome}
 use Rattle.git_names.specs.declared.object_format.Format.{Format}
 use Rattle.git_names.specs.ObjectName.{ObjectName}
 use Rattle.git_msg.specs.declared.Boundary.{Boundary}
-use Rattle.git_msg.specs.Asked.{FetchAsked, is_empty}
+use Rattle.git_msg.specs.Asked.{is_empty}
 use Rattle.git_server.specs.Repository.{Entry, IsRising, IsOfFormat, IsUnbornHead, bytes_of}
 use Rattle.git_server.specs.Objects.{AreRising, object_of}
 use Rattle.git_server.specs.declared.list_repo.RepoLists.{RepoLists}
@@ -12,6 +12,7 @@ use Rattle.git_server.specs.declared.pack.Pack.{Pack}
 use Rattle.git_server.specs.PackBytes.{bytes_in, bytes_in_some}
 use Rattle.git_server.specs.declared.list_repo.RepoFault.{RepoFault}
 use Rattle.git_server.specs.declared.list_repo.RepoFault.TheVariants.{UnsortedRefs, UnsortedObjects, MixedFormats, UnbornHead}
+use Rattle.git_msg.specs.Arguments.{Arg}
 
 -- the format, the references, the objects with their sizes, the number of common objects after which it is ready, the shallow
 -- boundary, the pack, the name that an unborn `HEAD` points to, and the pack for requests that have a filter, if that
@@ -45,7 +46,7 @@ abbrev pub lists_in : RepoLists → Lists
 lists_in l = lists_from l.format l.refs l.objects l.ready_after l.boundaries l.pack l.unborn_head l.filtered
 
 -- the pack for a request: the filtered one if there is one and the request has a filter, otherwise the pack
-abbrev pub pack_for : Lists → FetchAsked → List ℕ
+abbrev pub pack_for : Lists → List Arg → List ℕ
 pack_for lists request = if is_empty request.filters then lists.pack else unwrap_or lists.filtered lists.pack
 
 -- all object names are of the format

@@ -10,8 +10,9 @@ use Rattle.git_names.specs.ObjectName.{ObjectName}
 use Rattle.git_names.specs.RefName.{IsRefName}
 use Rattle.git_msg.specs.declared.Boundary.{Boundary}
 use Rattle.git_msg.specs.declared.Boundary.TheVariants.{Shallow, Unshallow}
-use Rattle.git_msg.specs.Asked.{FetchAsked}
+use Rattle.git_msg.specs.Asked.{shallows_in}
 use Rattle.git_server.specs.Objects.{object_of}
+use Rattle.git_msg.specs.Arguments.{Arg}
 
 -- a reference: its name, its object, the target of a symbolic reference, and the object that a tag object peels to
 pub record Entry : Type 0 where
@@ -60,9 +61,9 @@ pub record Repository : Type 0 where
   pub unborn_head : Option (List ℕ)
   pub has : ObjectName → Bool
   pub object_size : ObjectName → Option ℕ
-  pub is_ready : FetchAsked → Bool
-  pub boundaries : FetchAsked → List Boundary
-  pub pack : FetchAsked → List ℕ
+  pub is_ready : List Arg → Bool
+  pub boundaries : List Arg → List Boundary
+  pub pack : List Arg → List ℕ
 
 -- the line is no `unshallow` line, or that of one of these commits
 abbrev pub IsUnshallowOf : List ObjectName → Boundary → Type 0
@@ -80,8 +81,8 @@ pub record IsSound (repo : Repository) : Type 0 where
   pub named : All (λ ref. IsNamed ref.name ref.target) repo.refs
   pub of_format : All (IsOfFormat repo.format) repo.refs
   pub unborn : ForSome repo.unborn_head (IsUnbornHead repo.refs)
-  pub boundaries_of_format : (request : FetchAsked) → All (λ boundary. (object_of boundary).format ≡ repo.format) (repo.boundaries request)
-  pub unshallow : (request : FetchAsked) → All (IsUnshallowOf request.shallows) (repo.boundaries request)
+  pub boundaries_of_format : (request : List Arg) → All (λ boundary. (object_of boundary).format ≡ repo.format) (repo.boundaries request)
+  pub unshallow : (request : List Arg) → All (IsUnshallowOf (shallows_in request)) (repo.boundaries request)
 
 -- the result for a name in a repository: the object, or nothing if no reference has the name
 abbrev pub IsFound : List Entry → List ℕ → Option ObjectName → Type 0

@@ -4,7 +4,7 @@ ghost use Rattle.std.specs.Prelude.{◌≡◌};
 ghost use Rattle.git_server.specs.Admission.{barred};
 
 use crate::repo::Repo;
-use git_msg::{Admits, Argument};
+use git_msg::{Admits, Argument, ObjectWord, TextWord};
 use git_pkt::Kind;
 
 /// A repository that refuses arguments: a want of an object or a reference that it does not have.
@@ -19,13 +19,13 @@ impl<'r, R: Repo> Admits for Admission<'r, R> {
 
     fn refusal_of(&self, argument: &Argument<'_>) -> Option<Kind> {
         match argument {
-            Argument::Want(id) => {
+            Argument::Object(ObjectWord::Want, id) => {
                 if self.repo.has(id) {
                     return None;
                 }
                 Some(Kind::NotOurs)
             }
-            Argument::WantRef(name) => match self.repo.find(name) {
+            Argument::Text(TextWord::WantRef, name) => match self.repo.find(name) {
                 Some(_) => None,
                 None => Some(Kind::UnknownRef),
             },

@@ -7,6 +7,7 @@ ghost use Rattle.git_msg.specs.Prefixes.{IsOrdered};
 ghost use Rattle.git_msg.specs.References.{IsWritable, reference_of, shown_reference};
 ghost use Rattle.git_server.specs.Answers.{asks_for_unborn as asks, shown_line};
 ghost use Rattle.git_server.specs.Repository.{HasOneFormat};
+ghost use Rattle.git_msg.specs.Asked.{ref_prefixes_in, peel_in, symrefs_in};
 
 use crate::entry::RefEntry;
 use git_msg::{Listing, Reference};
@@ -19,7 +20,7 @@ pub fn entry_line<'a, A: Allocator + Copy>(
     listing: &Listing<A>,
 ) -> Reference<'a>
     requires { HasOneFormat entry.now }
-    ensures shown { shown_reference result ≡ shown_line listing.now.asked.symrefs listing.now.asked.peel entry.now }
+    ensures shown { shown_reference result ≡ shown_line (symrefs_in listing.now.asked) (peel_in listing.now.asked) entry.now }
     ensures writable { IsWritable (shown_reference result) }
 {
     Reference {
@@ -46,7 +47,7 @@ pub fn unborn_line(target: &[u8]) -> Reference<'_>
 
 /// Whether the request asks for an unborn `HEAD`.
 pub fn asks_for_unborn<A: Allocator + Copy>(listing: &Listing<A>) -> bool
-    requires { IsOrdered listing.now.asked.ref_prefixes }
+    requires { IsOrdered (ref_prefixes_in listing.now.asked) }
     ensures { result ≡ asks listing.now.asked }
 {
     listing.unborn() && listing.symrefs() && listing.shows_at(listing.split(b"HEAD"), b"HEAD")

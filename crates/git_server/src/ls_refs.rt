@@ -10,6 +10,7 @@ ghost use Rattle.git_server.specs.Answers.{is_shown, reference_packet, shown_ref
 ghost use Rattle.git_server.specs.NextShown.{NextShown};
 ghost use Rattle.git_server.specs.Machine.WrittenPackets.{Writes};
 ghost use Rattle.git_server.specs.Repository.{Entry, HasOneFormat, IsRising, comes_before};
+ghost use Rattle.git_msg.specs.Asked.{ref_prefixes_in, peel_in, symrefs_in};
 
 use crate::entry::RefEntry;
 use crate::entry_lines::{asks_for_unborn, entry_line, unborn_line};
@@ -37,7 +38,7 @@ pub(crate) fn write_references<R: Repo, A: Allocator + Copy>(
     reader: &mut PacketReader,
 ) -> Option<ReferencesPlace>
     requires between { is_open reader.old ≡ false }
-    requires ordered { IsOrdered listing.now.asked.ref_prefixes }
+    requires ordered { IsOrdered (ref_prefixes_in listing.now.asked) }
     ensures { AnswersOne listing.now.asked (R.state repo.now).answers place reader.old result reader.new }
 {
     match place {
@@ -60,7 +61,7 @@ fn answer_entry<R: Repo, A: Allocator + Copy>(
     reader: &mut PacketReader,
 ) -> Option<ReferencesPlace>
     requires between { is_open reader.old ≡ false }
-    requires ordered { IsOrdered listing.now.asked.ref_prefixes }
+    requires ordered { IsOrdered (ref_prefixes_in listing.now.asked) }
     ensures { AnswersOne listing.now.asked (R.state repo.now).answers (ReferencesPlace.Entry next) reader.old result reader.new }
 {
     let refs = repo.refs();
@@ -81,7 +82,7 @@ fn shown_unborn<'a, R: Repo, A: Allocator + Copy>(
     repo: &'a R,
     listing: &Listing<A>,
 ) -> Option<&'a [u8]>
-    requires { IsOrdered listing.now.asked.ref_prefixes }
+    requires { IsOrdered (ref_prefixes_in listing.now.asked) }
     ensures shown { MatchOption result (unborn_packets listing.now.asked (R.state repo.now).answers.unborn_head ≡ [])
         (λ target. unborn_packets listing.now.asked (R.state repo.now).answers.unborn_head ≡ unborn_packet target.now ∷ []) }
     ensures name { IfSome result (λ target. IsRefName target.now) }
@@ -112,7 +113,7 @@ fn write_entry<A: Allocator + Copy>(
 )
     requires between { is_open reader.old ≡ false }
     requires format { HasOneFormat entry.now }
-    ensures { Writes reader.old (reference_packet listing.now.asked.symrefs listing.now.asked.peel entry.now) reader.new }
+    ensures { Writes reader.old (reference_packet (symrefs_in listing.now.asked) (peel_in listing.now.asked) entry.now) reader.new }
 {
     put_reference(reader.lend(), entry_line(entry, listing));
     let _ = reader.hold();
@@ -125,8 +126,8 @@ pub(crate) fn next_shown<A: Allocator + Copy>(
     from: usize,
 ) -> Option<usize>
     requires rising { IsRising refs.now }
-    requires ordered { IsOrdered listing.now.asked.ref_prefixes }
-    ensures { NextShown listing.now.asked.ref_prefixes refs.now from result }
+    requires ordered { IsOrdered (ref_prefixes_in listing.now.asked) }
+    ensures { NextShown (ref_prefixes_in listing.now.asked) refs.now from result }
 {
     let mut at = from;
     while at < refs.len() {
@@ -148,13 +149,13 @@ fn past_hidden<A: Allocator + Copy>(
     split: usize,
 ) -> usize
     requires rising { IsRising refs.now }
-    requires ordered { IsOrdered listing.now.asked.ref_prefixes }
+    requires ordered { IsOrdered (ref_prefixes_in listing.now.asked) }
     requires within { at < length refs.now }
-    requires split { (d : Entry) → SplitsAt listing.now.asked.ref_prefixes (slice_index_or refs.now at d).name split }
-    requires hidden { (d : Entry) → is_shown listing.now.asked.ref_prefixes (slice_index_or refs.now at d).name ≡ false }
+    requires split { (d : Entry) → SplitsAt (ref_prefixes_in listing.now.asked) (slice_index_or refs.now at d).name split }
+    requires hidden { (d : Entry) → is_shown (ref_prefixes_in listing.now.asked) (slice_index_or refs.now at d).name ≡ false }
     ensures onward { at < result }
     ensures within { result ≤ length refs.now }
-    ensures same { shown_refs listing.now.asked.ref_prefixes (drop result refs.now) ≡ shown_refs listing.now.asked.ref_prefixes (drop at refs.now) }
+    ensures same { shown_refs (ref_prefixes_in listing.now.asked) (drop result refs.now) ≡ shown_refs (ref_prefixes_in listing.now.asked) (drop at refs.now) }
 {
     match listing.ref_prefix(split) {
         Some(next) => first_from(refs, next, at + 1),

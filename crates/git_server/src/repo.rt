@@ -2,9 +2,10 @@
 
 ghost use Rattle.std.specs.Prelude.{◌≡◌, ◌<◌, ℕ, Some, codes, length, slice_get, IfOk, OnErr, OnOk};
 ghost use Rattle.std.specs.Option.{option_copied};
-ghost use Rattle.git_msg.specs.Asked.{FetchAsked};
 ghost use Rattle.git_server.specs.Packs.{IsPackPart};
 ghost use Rattle.git_server.specs.Repository.{RepoState, IsFound, IsSound};
+ghost use Rattle.git_msg.specs.Arguments.{Arg};
+ghost use Rattle.std.specs.Prelude.{List};
 
 use crate::entry::RefEntry;
 use git_msg::{Boundary, Fetch};
@@ -34,7 +35,7 @@ pub trait Repo {
 
     /// The number of bytes that a read of a pack may return, for a request, an offset and the length of the buffer. Any number is allowed if
     /// the repository does not define this.
-    ghost read_gives: { Self → FetchAsked → ℕ → ℕ → ℕ → Type 0 } = { λ repo request offset space count. Unit {0} };
+    ghost read_gives: { Self → List Arg → ℕ → ℕ → ℕ → Type 0 } = { λ repo request offset space count. Unit {0} };
 
     /// The format of its object names.
     fn format(&self) -> Format
@@ -97,5 +98,5 @@ pub trait Repo {
     ghost sound: { (repo : Self) → IsSound (state repo).answers };
 
     /// A pack has less than 2^63 bytes.
-    ghost short: { (repo : Self) (request : FetchAsked) → length ((state repo).answers.pack request) < 9223372036854775808 };
+    ghost short: { (repo : Self) (request : List Arg) → length ((state repo).answers.pack request) < 9223372036854775808 };
 }

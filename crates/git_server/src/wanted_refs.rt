@@ -7,6 +7,7 @@ ghost use Rattle.git_msg.specs.ResponseLines.{wanted_of, wanted_text};
 ghost use Rattle.git_msg.specs.WrittenRequest.{text_line};
 ghost use Rattle.git_server.specs.Machine.FetchPlaces.{WritesSection, wanted_from};
 ghost use Rattle.git_server.specs.Machine.WrittenPackets.{Writes};
+ghost use Rattle.git_msg.specs.Asked.{want_refs_in};
 
 use crate::packets::{write_line, write_packet};
 use crate::repo::Repo;
@@ -25,7 +26,7 @@ pub(crate) fn write_wanted_refs<R: Repo, A: Allocator + Copy>(
     reader: &mut PacketReader,
 ) -> SectionPart
     requires { is_open reader.old ≡ false }
-    ensures { WritesSection (wanted_from (R.state repo.now).answers request.now.asked.want_refs) place reader.old result reader.new }
+    ensures { WritesSection (wanted_from (R.state repo.now).answers (want_refs_in request.now.asked)) place reader.old result reader.new }
 {
     match place {
         SectionPlace::Header => {
@@ -47,7 +48,7 @@ fn write_from<R: Repo, A: Allocator + Copy>(
     reader: &mut PacketReader,
 ) -> SectionPart
     requires { is_open reader.old ≡ false }
-    ensures { WritesSection (wanted_from (R.state repo.now).answers request.now.asked.want_refs) (SectionPlace.Line from) reader.old result reader.new }
+    ensures { WritesSection (wanted_from (R.state repo.now).answers (want_refs_in request.now.asked)) (SectionPlace.Line from) reader.old result reader.new }
 {
     let mut at = from;
     while let Some(name) = request.want_ref(at) {

@@ -6,7 +6,7 @@ use Rattle.git_names.specs.ObjectName.{ObjectName}
 use Rattle.git_names.specs.declared.object_format.Format.{Format}
 use Rattle.git_pkt.specs.Packets.{Pkt}
 use Rattle.git_pkt.specs.Splits.{Given}
-use Rattle.git_msg.specs.Asked.{Asked, FetchAsked, fetch, ls_refs, object_info}
+use Rattle.git_msg.specs.Asked.{Asked, fetch, ls_refs, object_info, want_refs_in, wants_in}
 use Rattle.git_server.specs.Packs.{whole}
 use Rattle.git_msg.specs.WholeRequests.{AreRequests}
 use Rattle.git_msg.specs.Machine.RequestStreams.{IsOne}
@@ -24,6 +24,7 @@ use Rattle.git_store.specs.HostedRepository.{AllOfRepository, AllReportedBy, End
 use Rattle.git_store.specs.HostedRepository.{IsReportedBy, over_repository}
 use Rattle.git_host.proofs.RepositoryFacts.{reported_answers}
 use Rattle.git_host.proofs.SizesMoves.{references_answer, sizes_answer}
+use Rattle.git_msg.specs.Arguments.{Arg}
 
 one_answer : (format : Format) (repo : Repository) (q : Asked) (f : Facts) (packets : List Pkt) → IsOfRepository repo q f
     → IsAnswerBy whole format q f packets → IsAnswer repo q packets
@@ -79,11 +80,11 @@ finds_all find (name ∷ names) [] e = absurd (cc)
 finds_all find (name ∷ names) (id ∷ ids) e =
     All-cons (λ (x : List ℕ). find x ≢ None) name names (λ none. none_some id (sym none ∙ ap (head_or None) e)) (finds_all find names ids (ap (drop 1) e))
 
-pub has_asked : (format : Format) (repo : Repository) (q : FetchAsked) (a : AdmissionFacts) (ids : List ObjectName) → IsAdmittedBy repo q a
+pub has_asked : (format : Format) (repo : Repository) (q : List Arg) (a : AdmissionFacts) (ids : List ObjectName) → IsAdmittedBy repo q a
     → IsAdmitted format q a ids → HasAsked repo (fetch q)
 has_asked format repo q a ids of h = (
-  has_all repo.has q.wants [] (sym of.wants ∙ h.there ∙ sym (append-nil (all_there q.wants))),
-  finds_all (found_ref repo.refs) q.want_refs ids (sym of.found ∙ h.found),
+  has_all repo.has (wants_in q) [] (sym of.wants ∙ h.there ∙ sym (append-nil (all_there (wants_in q)))),
+  finds_all (found_ref repo.refs) (want_refs_in q) ids (sym of.found ∙ h.found),
 )
 
 one_asked : (format : Format) (repo : Repository) (q : Asked) (f : Facts) (packets : List Pkt) → IsAdmittedByRepository repo q f

@@ -12,8 +12,10 @@ use Rattle.git_pkt.specs.declared.fault.Kind.{Kind}
 use Rattle.git_pkt.specs.declared.fault.Kind.TheVariants.{NotOurs, PackSource, UnknownRef}
 use Rattle.git_msg.specs.declared.offers.Offer.{Offer}
 use Rattle.git_msg.specs.Admission.{AreAdmitted, IsAdmitted, IsBarred}
-use Rattle.git_msg.specs.Arguments.{Arg, Value, Word, id_value, text_value, want, want_ref}
-use Rattle.git_msg.specs.Asked.{Asked, FetchAsked, asked_by, fetch, id_in, ls_refs, object_info, wants_of}
+use Rattle.git_msg.specs.Arguments.{Arg, with_id, with_text}
+use Rattle.git_msg.specs.declared.words.ObjectWord.{ObjectWord}
+use Rattle.git_msg.specs.declared.words.TextWord.{TextWord}
+use Rattle.git_msg.specs.Asked.{Asked, arguments_in, asked_by, fetch, id_in, ls_refs, object_info, want_refs_in, wants_in}
 use Rattle.git_msg.specs.declared.arguments.Command.{Command}
 use Rattle.git_msg.specs.declared.arguments.Command.TheVariants.{LsRefs, Fetch, ObjectInfo}
 use Rattle.git_msg.specs.Lines.{Line, argument_in, arguments_of}
@@ -23,7 +25,7 @@ use Rattle.git_msg.specs.Machine.RequestStreams.{AreAsked, IsOne}
 use Rattle.git_msg.proofs.LineLaws.{argument_payload}
 use Rattle.git_msg.proofs.LineLists.{arguments_snoc, lines_snoc}
 use Rattle.git_msg.proofs.WholeRequests.{last_request}
-use Rattle.git_server.specs.Admission.{HasAsked, barred, barred_ref, barred_value}
+use Rattle.git_server.specs.Admission.{HasAsked, barred, barred_ref}
 use Rattle.git_server.specs.Answers.{AllFit, error_packet, spelled}
 use Rattle.git_server.specs.Repository.{Repository, found_ref}
 use Rattle.git_server.specs.Sessions.{IsTailBy as IsServersTail, Setting}
@@ -53,13 +55,13 @@ each_found P h (x ∷ xs) all =
 
 not_had : (repo : Repository) (kind : Kind) (q : Asked) (f : Facts) → IsLackedByRepository repo kind q f → HasAsked repo q → ⊥
 not_had repo NotOurs (fetch q) (of_fetch a t) (lacks, (more, cut), found) (had, refs) =
-    let all = All-map (λ (b : Bool). b ≡ true) repo.has q.wants had in
+    let all = All-map (λ (b : Bool). b ≡ true) repo.has (wants_in q) had in
     let here = subst (λ (bs : List Bool). All (λ b. b ≡ true) bs)
-    (cut ∙ ap (λ (l : List Bool). l ++ more) lacks.wants ∙ append_assoc (all_there (take lacks.at q.wants)) (false ∷ []) more) all in
-    let both = holds_at (λ (b : Bool). b ≡ true) (all_there (take lacks.at q.wants)) false more here in
+    (cut ∙ ap (λ (l : List Bool). l ++ more) lacks.wants ∙ append_assoc (all_there (take lacks.at (wants_in q))) (false ∷ []) more) all in
+    let both = holds_at (λ (b : Bool). b ≡ true) (all_there (take lacks.at (wants_in q))) false more here in
     absurd (cc)
 not_had repo UnknownRef (fetch q) (of_fetch a t) (lacks, wants, (more, cut)) (had, refs) =
-    let all = All-map (λ (o : Option ObjectName). o ≢ None) (found_ref repo.refs) q.want_refs refs in
+    let all = All-map (λ (o : Option ObjectName). o ≢ None) (found_ref repo.refs) (want_refs_in q) refs in
     let here = subst (λ (os : List (Option ObjectName)). All (λ o. o ≢ None) os)
     (cut ∙ ap (λ (l : List (Option ObjectName)). l ++ more) lacks.found ∙ append_assoc (map Some lacks.ids) (None ∷ []) more) all in
     holds_at (λ (o : Option ObjectName). o ≢ None) (map Some lacks.ids) None more here refl
@@ -82,36 +84,36 @@ barred_name : (o : Option ObjectName) (kind : Kind) → barred_ref o ≡ Some ki
 barred_name (Some id) kind is = absurd (cc)
 barred_name None kind is = cc
 
-value_name : (repo : Repository) (word : Word) (value : Value) (kind : Kind) → barred_value repo word value ≡ Some kind → IsOfRepositorys kind
-value_name repo want (id_value id) kind is = inl (barred_want (repo.has id) kind is)
-value_name repo want_ref (text_value name) kind is = inr (barred_name (found_ref repo.refs name) kind is)
-value_name repo word value kind is = absurd (cc)
+refusal_name : (repo : Repository) (arg : Arg) (kind : Kind) → barred repo arg ≡ Some kind → IsOfRepositorys kind
+refusal_name repo (with_id ObjectWord.Want id) kind is = inl (barred_want (repo.has id) kind is)
+refusal_name repo (with_text TextWord.WantRef name) kind is = inr (barred_name (found_ref repo.refs name) kind is)
+refusal_name repo arg kind is = absurd (cc)
 
 -- where it has all objects that are wanted, that is a reference
 barred_had : (b : Bool) (kind : Kind) → b ≡ true → (if b then None else Some NotOurs) ≡ Some kind → ⊥
 barred_had true kind had is = cc
 barred_had false kind had is = cc
 
-value_of_reference : (repo : Repository) (word : Word) (value : Value) (kind : Kind) → barred_value repo word value ≡ Some kind
-    → IfSome (id_in want (record { word = word; value = value })) (λ id. repo.has id ≡ true) → kind ≡ UnknownRef
-value_of_reference repo want (id_value id) kind is had = absurd (barred_had (repo.has id) kind had is)
-value_of_reference repo want_ref (text_value name) kind is had = barred_name (found_ref repo.refs name) kind is
-value_of_reference repo word value kind is had = absurd (cc)
+refuses_reference : (repo : Repository) (arg : Arg) (kind : Kind) → barred repo arg ≡ Some kind
+    → IfSome (id_in ObjectWord.Want arg) (λ id. repo.has id ≡ true) → kind ≡ UnknownRef
+refuses_reference repo (with_id ObjectWord.Want id) kind is had = absurd (barred_had (repo.has id) kind had is)
+refuses_reference repo (with_text TextWord.WantRef name) kind is had = barred_name (found_ref repo.refs name) kind is
+refuses_reference repo arg kind is had = absurd (cc)
 
-wants_among : (q : FetchAsked) (c : Command) (args : List Arg) → fetch q ≡ asked_by c args → q.wants ≡ filter_map (id_in want) args
+wants_among : (q : List Arg) (c : Command) (args : List Arg) → fetch q ≡ asked_by c args → (wants_in q) ≡ filter_map (id_in ObjectWord.Want) args
 wants_among q LsRefs args same = absurd (cc)
-wants_among q Fetch args same = ap wants_of same
+wants_among q Fetch args same = ap (λ (q : Asked). wants_in (arguments_in q)) same
 wants_among q ObjectInfo args same = absurd (cc)
 
 name_at_line : (repo : Repository) (kind : Kind) (q : Asked) (f : Facts) (c : Command) (args : List Arg) (arg : Arg) (name : Kind)
     → IsLackedByRepository repo kind q f → q ≡ asked_by c args → ((P : Arg → Type 0) → All P args → P arg) → barred repo arg ≡ Some name
     → (name ≡ kind) ⊎ (name ≡ UnknownRef)
-name_at_line repo NotOurs q f c args arg name lacks same there refuses = value_name repo arg.word arg.value name refuses
+name_at_line repo NotOurs q f c args arg name lacks same there refuses = refusal_name repo arg name refuses
 name_at_line repo UnknownRef (fetch q) (of_fetch a t) c args arg name (lacks, (more, cut), found) same there refuses =
-    let had = has_all repo.has q.wants more (cut ∙ ap (λ (l : List Bool). l ++ more) lacks.there) in
+    let had = has_all repo.has (wants_in q) more (cut ∙ ap (λ (l : List Bool). l ++ more) lacks.there) in
     let among = subst (All (λ (id : ObjectName). repo.has id ≡ true)) (wants_among q c args same) had in
-    inr (value_of_reference repo arg.word arg.value name refuses
-    (there (λ x. IfSome (id_in want x) (λ id. repo.has id ≡ true)) (each_found (λ (id : ObjectName). repo.has id ≡ true) (id_in want) args among)))
+    inr (refuses_reference repo arg name refuses
+    (there (λ x. IfSome (id_in ObjectWord.Want x) (λ id. repo.has id ≡ true)) (each_found (λ (id : ObjectName). repo.has id ≡ true) (id_in ObjectWord.Want) args among)))
 name_at_line repo UnknownRef (fetch q) (of_references t) c args arg name lacks same there refuses = absurd lacks
 name_at_line repo UnknownRef (fetch q) (of_sizes sizes) c args arg name lacks same there refuses = absurd lacks
 name_at_line repo UnknownRef (ls_refs q) f c args arg name lacks same there refuses = absurd lacks
@@ -231,7 +233,7 @@ some_more (y ∷ xs) x is = cc
 
 no_text : (q : Asked) (f : Facts) (repo : Repository) → IsLackedByRepository repo NotOurs q f → f ≡ nothing_for q → ⊥
 no_text (fetch q) f repo lacks is =
-    let none = subst (IsLackedByRepository repo NotOurs (fetch q)) is lacks in some_more (all_there (take none.0.at q.wants)) false none.0.wants
+    let none = subst (IsLackedByRepository repo NotOurs (fetch q)) is lacks in some_more (all_there (take none.0.at (wants_in q))) false none.0.wants
 no_text (ls_refs q) f repo lacks is = absurd (subst (IsLackedByRepository repo NotOurs (ls_refs q)) is lacks)
 no_text (object_info q) f repo lacks is = absurd (subst (IsLackedByRepository repo NotOurs (object_info q)) is lacks)
 

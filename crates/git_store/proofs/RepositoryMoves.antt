@@ -7,7 +7,7 @@ use Rattle.git_names.specs.ObjectName.{ObjectName}
 use Rattle.git_names.specs.declared.object_format.Format.{Format}
 use Rattle.git_pkt.specs.Packets.{Pkt}
 use Rattle.git_msg.specs.declared.requests.Request.{Request}
-use Rattle.git_msg.specs.Asked.{Asked, FetchAsked, LsRefsAsked, ObjectInfoAsked, fetch, ls_refs, object_info, only_negotiates}
+use Rattle.git_msg.specs.Asked.{Asked, fetch, ls_refs, object_info, only_negotiates, haves_in, oids_in, want_refs_in, wants_in}
 use Rattle.git_msg.specs.Machine.HeldRequest.{asked_of}
 use Rattle.git_server.specs.FetchAnswers.{is_ready_for, negotiates}
 use Rattle.git_server.specs.Packs.{whole}
@@ -52,6 +52,7 @@ use Rattle.git_host.proofs.FetchMoves.{item_there}
 use Rattle.git_host.proofs.HostAnswerMoves.{none_needed}
 use Rattle.git_store.proofs.RepositoryReports.{FetchSoFar, SoFar, front_all, one_have, one_line, one_part, one_ready, one_reference, one_size}
 use Rattle.git_store.proofs.RepositoryReports.{one_want, one_want_ref}
+use Rattle.git_msg.specs.Arguments.{Arg}
 
 -- ---- the reply to what an answer needs
 
@@ -62,11 +63,11 @@ item_asked make xs next x question here is = let both : Some question ≡ Some (
 some_is : (question other : Question) → Some other ≡ Some question → question ≡ other
 some_is question other is = cc
 
-have_at : (alone : Bool) (place : Place) (next : ℕ) (q : FetchAsked) (t : FetchFacts) (given : List Pkt) → step_at alone place ≡ AskHave next
-    → StandsAt place q t given → (length t.has ≡ next) × (next < length q.haves)
+have_at : (alone : Bool) (place : Place) (next : ℕ) (q : List Arg) (t : FetchFacts) (given : List Pkt) → step_at alone place ≡ AskHave next
+    → StandsAt place q t given → (length t.has ≡ next) × (next < length (haves_in q))
 have_at alone (Have at any) next q t given is h =
     let same : at ≡ next = cc in
-    (h.so_far ∙ same, subst (λ (n : ℕ). n < length q.haves) same h.more)
+    (h.so_far ∙ same, subst (λ (n : ℕ). n < length (haves_in q)) same h.more)
 have_at true AtReady next q t given is h = absurd (cc)
 have_at false AtReady next q t given is h = absurd (cc)
 have_at alone Header next q t given is h = absurd (cc)
@@ -84,39 +85,40 @@ have_at alone AtLoss next q t given is h = absurd (cc)
 
 module _ {A : Type 0} (repo : Repository) (rising : IsRising repo.refs) (at : ℕ) (named : Bool) (what : HostReported) (taken : is_taken what ≡ true)
     (m : Terms) where
-  admission_reply : (x : AdmissionMachine A) (q : FetchAsked) (a : AdmissionFacts) (t : FetchFacts) (front : List Pkt) (need : Need) (question : Question)
+  admission_reply : (x : AdmissionMachine A) (q : List Arg) (a : AdmissionFacts) (t : FetchFacts) (front : List Pkt) (need : Need) (question : Question)
       (reply : Reply) (report : Report) → IsAnswering m (Admission x) (fetch q) (of_fetch a t) front → IsNeeded need (Admission x)
       → question_of (fetch q) need ≡ Some question → IsReplyOf repo at named question reply → IsReportOf need reply report
       → FetchSoFar repo at q a t
       → SoFar repo (place_after reply at) (named_after reply named) (fetch q) (with_reported what report (of_fetch a t))
   admission_reply x q a t front (NeedWant next) question reply report h needed asks is reports so =
-      let stands = subst (λ (r : FetchAsked). AtWant next r a (wanted_by x)) h.asked
+      let stands = subst (λ (r : List Arg). AtWant next r a (wanted_by x)) h.asked
       (subst (λ (st : AdmissionStep). StandsAtStep st x.format (admission_asked x) a (wanted_by x)) needed h.represents) in
-      let (id, here) = item_there q.wants next stands.within in
+      let (id, here) = item_there (wants_in q) next stands.within in
       let count : length a.wants ≡ next =
-      ap length stands.so_far ∙ length-map (take next q.wants) (λ (i : ObjectName). true) ∙ length-take-le next q.wants (omega (arith, stands.within)) in
+      ap length stands.so_far ∙ length-map (take next (wants_in q)) (λ (i : ObjectName). true)
+      ∙ length-take-le next (wants_in q) (omega (arith, stands.within)) in
       one_want repo rising at named what taken q a t so next id count here reply report
-      (subst (λ (x : Question). IsReplyOf repo at named x reply) (item_asked ask_want q.wants next id question here asks) is) reports
+      (subst (λ (x : Question). IsReplyOf repo at named x reply) (item_asked ask_want (wants_in q) next id question here asks) is) reports
   admission_reply x q a t front (NeedWantRef next) question reply report h needed asks is reports so =
-      let stands = subst (λ (r : FetchAsked). AtWantRef next x.format r a (wanted_by x)) h.asked
+      let stands = subst (λ (r : List Arg). AtWantRef next x.format r a (wanted_by x)) h.asked
       (subst (λ (st : AdmissionStep). StandsAtStep st x.format (admission_asked x) a (wanted_by x)) needed h.represents) in
-      let (name, here) = item_there q.want_refs next stands.within in
+      let (name, here) = item_there (want_refs_in q) next stands.within in
       let count : length a.found ≡ next = ap length stands.found ∙ length-map (wanted_by x) (λ (i : ObjectName). Some i) ∙ stands.so_far in
       one_want_ref repo rising at named what taken q a t so next name count here reply report
-      (subst (λ (x : Question). IsReplyOf repo at named x reply) (item_asked ask_want_ref q.want_refs next name question here asks) is) reports
+      (subst (λ (x : Question). IsReplyOf repo at named x reply) (item_asked ask_want_ref (want_refs_in q) next name question here asks) is) reports
   admission_reply x q a t front need question reply report h needed asks is reports so = absurd needed
 
-  fetch_reply : (x : FetchAnswer A) (q : FetchAsked) (a : AdmissionFacts) (t : FetchFacts) (front : List Pkt) (need : Need) (question : Question)
+  fetch_reply : (x : FetchAnswer A) (q : List Arg) (a : AdmissionFacts) (t : FetchFacts) (front : List Pkt) (need : Need) (question : Question)
       (reply : Reply) (report : Report) → IsAnswering m (Fetch x) (fetch q) (of_fetch a t) front → IsNeeded need (Fetch x)
       → question_of (fetch q) need ≡ Some question → IsReplyOf repo at named question reply → IsReportOf need reply report
       → FetchSoFar repo at q a t
       → SoFar repo (place_after reply at) (named_after reply named) (fetch q) (with_reported what report (of_fetch a t))
   fetch_reply x q a t front (NeedHave next) question reply report h needed asks is reports so =
-      let stands = subst (λ (r : FetchAsked). StandsAt x.place r t front) h.asked h.represents.stands in
+      let stands = subst (λ (r : List Arg). StandsAt x.place r t front) h.asked h.represents.stands in
       let (count, within) = have_at (only_negotiates (fetch_asked x)) x.place next q t front needed stands in
-      let (id, here) = item_there q.haves next within in
+      let (id, here) = item_there (haves_in q) next within in
       one_have repo rising at named what taken q a t so next id count here reply report
-      (subst (λ (x : Question). IsReplyOf repo at named x reply) (item_asked ask_have q.haves next id question here asks) is) reports
+      (subst (λ (x : Question). IsReplyOf repo at named x reply) (item_asked ask_have (haves_in q) next id question here asks) is) reports
   fetch_reply x q a t front NeedReady question reply report h needed asks is reports so =
       one_ready repo rising at named what taken q a t so reply report
       (subst (λ (x : Question). IsReplyOf repo at named x reply) (some_is question (ready q) asks) is) reports
@@ -135,30 +137,30 @@ module _ {A : Type 0} (repo : Repository) (rising : IsRising repo.refs) (at : �
       → IsReportOf need reply report → SoFar repo at named q f
       → SoFar repo (place_after reply at) (named_after reply named) q (with_reported what report f)
 
-  references_reply : (x : ReferencesAnswer A) (q : LsRefsAsked) (t : _) → RepliesTo (References x) (ls_refs q) (of_references t)
+  references_reply : (x : ReferencesAnswer A) (q : List Arg) (t : _) → RepliesTo (References x) (ls_refs q) (of_references t)
   references_reply x q t front NeedReference question reply report h needed asks is reports so =
       one_reference repo rising at named what taken q t so reply report
       (subst (λ (x : Question). IsReplyOf repo at named x reply) (some_is question ask_reference asks) is) reports
   references_reply x q t front need question reply report h needed asks is reports so = absurd needed
 
-  sizes_reply : (x : SizesAnswer A) (q : ObjectInfoAsked) (sizes : List (Option ℕ)) → RepliesTo (Sizes x) (object_info q) (of_sizes sizes)
+  sizes_reply : (x : SizesAnswer A) (q : List Arg) (sizes : List (Option ℕ)) → RepliesTo (Sizes x) (object_info q) (of_sizes sizes)
   sizes_reply x q sizes front (NeedSize next) question reply report h needed asks is reports so =
-      let stands = subst (λ (r : ObjectInfoAsked). AtObject next r sizes front) h.asked
+      let stands = subst (λ (r : List Arg). AtObject next r sizes front) h.asked
       (subst (λ (p : SizesPlace). StandsAtSizes p (sizes_asked x) sizes front) needed.0 h.represents) in
-      let within = subst (λ (r : ObjectInfoAsked). next < length r.oids) h.asked needed.1 in
-      let (id, here) = item_there q.oids next within in
-      let same = subst (λ (r : ObjectInfoAsked). question_of (object_info r) (NeedSize next) ≡ Some question) h.asked asks in
+      let within = subst (λ (r : List Arg). next < length (oids_in r)) h.asked needed.1 in
+      let (id, here) = item_there (oids_in q) next within in
+      let same = subst (λ (r : List Arg). question_of (object_info r) (NeedSize next) ≡ Some question) h.asked asks in
       one_size repo rising at named what taken q sizes so next id stands.so_far here reply report
-      (subst (λ (x : Question). IsReplyOf repo at named x reply) (item_asked ask_size q.oids next id question here same) is) reports
+      (subst (λ (x : Question). IsReplyOf repo at named x reply) (item_asked ask_size (oids_in q) next id question here same) is) reports
   sizes_reply x q sizes front need question reply report h needed asks is reports so = absurd needed
 
   pub one_reply : (answer : HostAnswer A) (q : Asked) (f : Facts) → RepliesTo answer q f
   one_reply (Admission x) (fetch q) (of_fetch a t) front need question reply report h needed asks is reports so =
       admission_reply x q a t front need question reply report h needed
-      (subst (λ (r : FetchAsked). question_of (fetch r) need ≡ Some question) h.asked asks) is reports so
+      (subst (λ (r : List Arg). question_of (fetch r) need ≡ Some question) h.asked asks) is reports so
   one_reply (Fetch x) (fetch q) (of_fetch a t) front need question reply report h needed asks is reports so =
       fetch_reply x q a t front need question reply report h needed
-      (subst (λ (r : FetchAsked). question_of (fetch r) need ≡ Some question) h.asked asks) is reports so
+      (subst (λ (r : List Arg). question_of (fetch r) need ≡ Some question) h.asked asks) is reports so
   one_reply (References x) (ls_refs q) (of_references t) front need question reply report h needed asks is reports so =
       references_reply x q t front need question reply report h needed asks is reports so
   one_reply (Sizes x) (object_info q) (of_sizes sizes) front need question reply report h needed asks is reports so =
@@ -168,17 +170,17 @@ module _ {A : Type 0} (repo : Repository) (rising : IsRising repo.refs) (at : �
 
 -- ---- what was reported for a request whose answer is whole
 
-pub record FetchButPack (repo : Repository) (q : FetchAsked) (t : FetchFacts) : Type 0 where
-  pub has : negotiates q ≡ true → t.has ≡ map repo.has q.haves
+pub record FetchButPack (repo : Repository) (q : List Arg) (t : FetchFacts) : Type 0 where
+  pub has : negotiates q ≡ true → t.has ≡ map repo.has (haves_in q)
   pub boundary : sends_pack q t ≡ true → t.boundary ≡ repo.boundaries q
-  pub wanted : AreFound repo.refs q.want_refs t.wanted
+  pub wanted : AreFound repo.refs (want_refs_in q) t.wanted
   pub ready : negotiates q ≡ true → readiness q t ≡ Some (is_ready_for repo q)
   pub progress : t.progress ≡ []
 
 abbrev pub ButPack : Repository → Asked → Facts → Type 0
 ButPack repo (ls_refs q) (of_references t) = (t.refs ≡ repo.refs) × (t.unborn ≡ repo.unborn_head)
 ButPack repo (fetch q) (of_fetch a t) = IsAdmittedBy repo q a × FetchButPack repo q t
-ButPack repo (object_info q) (of_sizes sizes) = sizes ≡ map repo.object_size q.oids
+ButPack repo (object_info q) (of_sizes sizes) = sizes ≡ map repo.object_size (oids_in q)
 ButPack repo q f = ⊥
 
 abbrev pub AllButPack : Repository → List Asked → List Facts → Type 0
@@ -186,14 +188,14 @@ AllButPack repo [] [] = Unit {0}
 AllButPack repo (q ∷ qs) (f ∷ fs) = ButPack repo q f × AllButPack repo qs fs
 AllButPack repo qs fs = ⊥
 
-all_haves : (b : Bool) (r : Option Bool) (q : FetchAsked) (t : FetchFacts) (packets : List Pkt) → IsFetchAnswerWhere b r whole q t packets → b ≡ true
-    → length t.has ≡ length q.haves
+all_haves : (b : Bool) (r : Option Bool) (q : List Arg) (t : FetchFacts) (packets : List Pkt) → IsFetchAnswerWhere b r whole q t packets → b ≡ true
+    → length t.has ≡ length (haves_in q)
 all_haves true (Some true) q t packets h is = h.0
 all_haves true (Some false) q t packets h is = h.0
 all_haves true None q t packets h is = absurd h
 all_haves false r q t packets h is = absurd (cc)
 
-boundary_over : (b : Bool) (r : Option Bool) (q : FetchAsked) (t : FetchFacts) (packets : List Pkt) → IsFetchAnswerWhere b r whole q t packets
+boundary_over : (b : Bool) (r : Option Bool) (q : List Arg) (t : FetchFacts) (packets : List Pkt) → IsFetchAnswerWhere b r whole q t packets
     → (if b then unwrap_or r false else true) ≡ true → t.boundary_ended ≡ true
 boundary_over true (Some true) q t packets h is = h.1.ended
 boundary_over true (Some false) q t packets h is = absurd (cc)
@@ -201,7 +203,7 @@ boundary_over true None q t packets h is = absurd h
 boundary_over false r q t packets h is = h.ended
 
 -- whether the store is ready was reported where the request negotiates and may have a pack, as the repository answers
-ready_so : (alone able b : Bool) (reported r : Option Bool) (q : FetchAsked) (t : FetchFacts) (packets : List Pkt)
+ready_so : (alone able b : Bool) (reported r : Option Bool) (q : List Arg) (t : FetchFacts) (packets : List Pkt)
     → IsFetchAnswerWhere b r whole q t packets → b ≡ true → r ≡ (if alone then Some false else reported)
     → ForSome reported (λ reply. reply ≡ able) → r ≡ Some (not alone && able)
 ready_so true able true reported r q t packets h is from so = from
@@ -223,22 +225,22 @@ whole_so : (repo : Repository) (at : ℕ) (named : Bool) (format : Format) (q : 
     → IsAnswerBy whole format q f packets → ButPack repo q f
 whole_so repo at named format (ls_refs q) (of_references t) packets so h = so.all h.ended
 whole_so repo at named format (fetch q) (of_fetch a t) packets so h =
-    let wants = front_all a.wants (map repo.has q.wants) so.wants
-    (omega (arith, length-map q.wants repo.has, ap length h.0.there, length-map q.wants (λ (id : ObjectName). true))) in
-    let found = front_all a.found (map (found_ref repo.refs) q.want_refs) so.found
-    (omega (arith, length-map q.want_refs (found_ref repo.refs), ap length h.0.found, length-map t.wanted (λ (id : ObjectName). Some id), h.0.all)) in (
+    let wants = front_all a.wants (map repo.has (wants_in q)) so.wants
+    (omega (arith, length-map (wants_in q) repo.has, ap length h.0.there, length-map (wants_in q) (λ (id : ObjectName). true))) in
+    let found = front_all a.found (map (found_ref repo.refs) (want_refs_in q)) so.found
+    (omega (arith, length-map (want_refs_in q) (found_ref repo.refs), ap length h.0.found, length-map t.wanted (λ (id : ObjectName). Some id), h.0.all)) in (
       record { wants = wants; found = found },
       record {
-        has = λ asks. front_all t.has (map repo.has q.haves) so.has
-            (omega (arith, length-map q.haves repo.has, all_haves (negotiates q) (readiness q t) q t packets h.1.answer asks));
+        has = λ asks. front_all t.has (map repo.has (haves_in q)) so.has
+            (omega (arith, length-map (haves_in q) repo.has, all_haves (negotiates q) (readiness q t) q t packets h.1.answer asks));
         boundary = λ sends. so.all (boundary_over (negotiates q) (readiness q t) q t packets h.1.answer sends);
-        wanted = found_all repo.refs q.want_refs t.wanted (sym found ∙ h.0.found);
+        wanted = found_all repo.refs (want_refs_in q) t.wanted (sym found ∙ h.0.found);
         ready = λ asks. ready_so (only_negotiates q) (repo.is_ready q) (negotiates q) t.ready (readiness q t) q t packets h.1.answer asks refl so.ready;
         progress = so.progress;
       },
     )
 whole_so repo at named format (object_info q) (of_sizes sizes) packets so h =
-    front_all sizes (map repo.object_size q.oids) so (omega (arith, length-map q.oids repo.object_size, h.all))
+    front_all sizes (map repo.object_size (oids_in q)) so (omega (arith, length-map (oids_in q) repo.object_size, h.all))
 whole_so repo at named format q f packets so h = absurd so
 
 last_answer : (format : Format) (earlier : List Asked) (q : Asked) (fs : List Facts) (f : Facts) (packets : List Pkt)

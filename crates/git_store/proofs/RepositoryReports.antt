@@ -5,7 +5,7 @@ use Rattle.std.specs.Option.{ForSome, option_map}
 use Rattle.std.proofs.lemmas.Option.{slice_get-map, slice_get_cases}
 use Rattle.git_names.specs.ObjectName.{ObjectName}
 use Rattle.git_msg.specs.declared.Boundary.{Boundary}
-use Rattle.git_msg.specs.Asked.{Asked, FetchAsked, LsRefsAsked, ObjectInfoAsked, fetch, ls_refs, object_info}
+use Rattle.git_msg.specs.Asked.{Asked, fetch, ls_refs, object_info, haves_in, oids_in, want_refs_in, wants_in}
 use Rattle.git_server.specs.Repository.{Entry, IsRising, Repository, found_ref}
 use Rattle.git_server.proofs.FoundReference.{found_is}
 use Rattle.git_host.specs.Admissions.{AdmissionFacts}
@@ -25,6 +25,7 @@ use Rattle.git_host.specs.declared.report.Need.TheVariants.{Boundary as NeedBoun
 use Rattle.git_host.specs.declared.report.Report.{Report}
 use Rattle.git_host.specs.declared.report.Report.TheVariants.{Want, WantRef, Have, Ready, Boundary as BoundaryLine, BoundaryEnd, Pack, PackEnd}
 use Rattle.git_host.specs.declared.report.Report.TheVariants.{Reference, Unborn, ReferencesEnd, Size}
+use Rattle.git_msg.specs.Arguments.{Arg}
 
 -- ---- fronts of a list
 
@@ -59,12 +60,12 @@ past_all xs at none = elim (slice_get_cases xs at).1 [
 
 -- ---- a repository with other packs
 
-named_as_well : (repo : Repository) (pack : FetchAsked → List ℕ) (named : Bool) → IsNamed repo named → IsNamed (record repo { pack = pack }) named
+named_as_well : (repo : Repository) (pack : List Arg → List ℕ) (named : Bool) → IsNamed repo named → IsNamed (record repo { pack = pack }) named
 named_as_well repo pack true is = tt
 named_as_well repo pack false is = is
 
 -- no reply depends on its packs
-pub replies_as_well : (repo : Repository) (pack : FetchAsked → List ℕ) (at : ℕ) (named : Bool) (question : Question) (reply : Reply)
+pub replies_as_well : (repo : Repository) (pack : List Arg → List ℕ) (at : ℕ) (named : Bool) (question : Question) (reply : Reply)
     → IsReplyOf repo at named question reply → IsReplyOf (record repo { pack = pack }) at named question reply
 replies_as_well repo pack at named (ask_want id) (has b) is = is
 replies_as_well repo pack at named (ask_want_ref name) (found id) is = is
@@ -95,10 +96,10 @@ pub record RefsSoFar (repo : Repository) (at : ℕ) (named : Bool) (t : Referenc
   pub all : t.ended ≡ true → (t.refs ≡ repo.refs) × (t.unborn ≡ repo.unborn_head)
 
 -- after so many replies with lines of the boundary
-pub record FetchSoFar (repo : Repository) (at : ℕ) (q : FetchAsked) (a : AdmissionFacts) (t : FetchFacts) : Type 0 where
-  pub wants : IsFront a.wants (map repo.has q.wants)
-  pub found : IsFront a.found (map (found_ref repo.refs) q.want_refs)
-  pub has : IsFront t.has (map repo.has q.haves)
+pub record FetchSoFar (repo : Repository) (at : ℕ) (q : List Arg) (a : AdmissionFacts) (t : FetchFacts) : Type 0 where
+  pub wants : IsFront a.wants (map repo.has (wants_in q))
+  pub found : IsFront a.found (map (found_ref repo.refs) (want_refs_in q))
+  pub has : IsFront t.has (map repo.has (haves_in q))
   pub lines : IsFront t.boundary (repo.boundaries q)
   pub count : length t.boundary ≡ at
   pub all : t.boundary_ended ≡ true → t.boundary ≡ repo.boundaries q
@@ -109,22 +110,22 @@ pub record FetchSoFar (repo : Repository) (at : ℕ) (q : FetchAsked) (a : Admis
 abbrev pub SoFar : Repository → ℕ → Bool → Asked → Facts → Type 0
 SoFar repo at named (ls_refs q) (of_references t) = RefsSoFar repo at named t
 SoFar repo at named (fetch q) (of_fetch a t) = FetchSoFar repo at q a t
-SoFar repo at named (object_info q) (of_sizes sizes) = IsFront sizes (map repo.object_size q.oids)
+SoFar repo at named (object_info q) (of_sizes sizes) = IsFront sizes (map repo.object_size (oids_in q))
 SoFar repo at named q f = ⊥
 
 pub nothing_so_far : (repo : Repository) (q : Asked) → SoFar repo 0 false q (nothing_for q)
 nothing_so_far repo (ls_refs q) = record { front = (repo.refs, refl); count = refl; head = refl; all = λ is. absurd (cc) }
 nothing_so_far repo (fetch q) = record {
-  wants = (map repo.has q.wants, refl);
-  found = (map (found_ref repo.refs) q.want_refs, refl);
-  has = (map repo.has q.haves, refl);
+  wants = (map repo.has (wants_in q), refl);
+  found = (map (found_ref repo.refs) (want_refs_in q), refl);
+  has = (map repo.has (haves_in q), refl);
   lines = (repo.boundaries q, refl);
   count = refl;
   all = λ is. absurd (cc);
   ready = λ b is. absurd (cc);
   progress = refl;
 }
-nothing_so_far repo (object_info q) = (map repo.object_size q.oids, refl)
+nothing_so_far repo (object_info q) = (map repo.object_size (oids_in q), refl)
 
 -- ---- one report more, which was taken
 
@@ -145,14 +146,14 @@ module _ (repo : Repository) (rising : IsRising repo.refs) (at : ℕ) (named : B
   abbrev pub Onward : Reply → Report → Asked → Facts → Type 0
   Onward reply report q f = SoFar repo (place_after reply at) (named_after reply named) q (with_reported what report f)
 
-  module _ (q : FetchAsked) (a : AdmissionFacts) (t : FetchFacts) (h : FetchSoFar repo at q a t) where
-    pub one_want : (next : ℕ) (id : ObjectName) → length a.wants ≡ next → slice_get q.wants next ≡ Some id → (reply : Reply) (report : Report)
+  module _ (q : List Arg) (a : AdmissionFacts) (t : FetchFacts) (h : FetchSoFar repo at q a t) where
+    pub one_want : (next : ℕ) (id : ObjectName) → length a.wants ≡ next → slice_get (wants_in q) next ≡ Some id → (reply : Reply) (report : Report)
         → IsReplyOf repo at named (ask_want id) reply → IsReportOf (NeedWant next) reply report → Onward reply report (fetch q) (of_fetch a t)
     one_want next id count here (has b) report is reports =
         subst (λ (r : Report). Onward (has b) r (fetch q) (of_fetch a t)) (sym reports)
         (by_taken (SoFar repo at named (fetch q)) what (Want b) (of_fetch a t) taken refl (record {
-          wants = front_more a.wants (map repo.has q.wants) b h.wants
-              (mapped repo.has q.wants (length a.wants) id (ap (slice_get q.wants) count ∙ here) ∙ ap Some (sym is));
+          wants = front_more a.wants (map repo.has (wants_in q)) b h.wants
+              (mapped repo.has (wants_in q) (length a.wants) id (ap (slice_get (wants_in q)) count ∙ here) ∙ ap Some (sym is));
           found = h.found;
           has = h.has;
           lines = h.lines;
@@ -164,7 +165,7 @@ module _ (repo : Repository) (rising : IsRising repo.refs) (at : ℕ) (named : B
     one_want next id count here reply report is reports = absurd is
 
     -- what becomes of the facts by a wanted reference that is found or not
-    found_on : (id : Option ObjectName) → IsFront (a.found ++ id ∷ []) (map (found_ref repo.refs) q.want_refs)
+    found_on : (id : Option ObjectName) → IsFront (a.found ++ id ∷ []) (map (found_ref repo.refs) (want_refs_in q))
         → SoFar repo at named (fetch q) (with_report (WantRef id) (of_fetch a t))
     found_on (Some id) front = record {
       wants = h.wants;
@@ -187,26 +188,26 @@ module _ (repo : Repository) (rising : IsRising repo.refs) (at : ℕ) (named : B
       progress = h.progress;
     }
 
-    pub one_want_ref : (next : ℕ) (name : List ℕ) → length a.found ≡ next → slice_get q.want_refs next ≡ Some name → (reply : Reply) (report : Report)
+    pub one_want_ref : (next : ℕ) (name : List ℕ) → length a.found ≡ next → slice_get (want_refs_in q) next ≡ Some name → (reply : Reply) (report : Report)
         → IsReplyOf repo at named (ask_want_ref name) reply → IsReportOf (NeedWantRef next) reply report
         → Onward reply report (fetch q) (of_fetch a t)
     one_want_ref next name count here (found id) report is reports =
         subst (λ (r : Report). Onward (found id) r (fetch q) (of_fetch a t)) (sym reports)
         (by_taken (SoFar repo at named (fetch q)) what (WantRef id) (of_fetch a t) taken refl
-        (found_on id (front_more a.found (map (found_ref repo.refs) q.want_refs) id h.found
-        (mapped (found_ref repo.refs) q.want_refs (length a.found) name (ap (slice_get q.want_refs) count ∙ here)
+        (found_on id (front_more a.found (map (found_ref repo.refs) (want_refs_in q)) id h.found
+        (mapped (found_ref repo.refs) (want_refs_in q) (length a.found) name (ap (slice_get (want_refs_in q)) count ∙ here)
         ∙ ap Some (found_is repo.refs name id rising is)))))
     one_want_ref next name count here reply report is reports = absurd is
 
-    pub one_have : (next : ℕ) (id : ObjectName) → length t.has ≡ next → slice_get q.haves next ≡ Some id → (reply : Reply) (report : Report)
+    pub one_have : (next : ℕ) (id : ObjectName) → length t.has ≡ next → slice_get (haves_in q) next ≡ Some id → (reply : Reply) (report : Report)
         → IsReplyOf repo at named (ask_have id) reply → IsReportOf (NeedHave next) reply report → Onward reply report (fetch q) (of_fetch a t)
     one_have next id count here (has b) report is reports =
         subst (λ (r : Report). Onward (has b) r (fetch q) (of_fetch a t)) (sym reports)
         (by_taken (SoFar repo at named (fetch q)) what (Have b) (of_fetch a t) taken refl (record {
           wants = h.wants;
           found = h.found;
-          has = front_more t.has (map repo.has q.haves) b h.has
-              (mapped repo.has q.haves (length t.has) id (ap (slice_get q.haves) count ∙ here) ∙ ap Some (sym is));
+          has = front_more t.has (map repo.has (haves_in q)) b h.has
+              (mapped repo.has (haves_in q) (length t.has) id (ap (slice_get (haves_in q)) count ∙ here) ∙ ap Some (sym is));
           lines = h.lines;
           count = h.count;
           all = h.all;
@@ -271,7 +272,7 @@ module _ (repo : Repository) (rising : IsRising repo.refs) (at : ℕ) (named : B
     same_but_pack u had lines ended able quiet = record {
       wants = h.wants;
       found = h.found;
-      has = subst (λ (l : List Bool). IsFront l (map repo.has q.haves)) (sym had) h.has;
+      has = subst (λ (l : List Bool). IsFront l (map repo.has (haves_in q))) (sym had) h.has;
       lines = subst (λ (l : List Boundary). IsFront l (repo.boundaries q)) (sym lines) h.lines;
       count = ap length lines ∙ h.count;
       all = λ is. lines ∙ h.all (sym ended ∙ is);
@@ -290,7 +291,7 @@ module _ (repo : Repository) (rising : IsRising repo.refs) (at : ℕ) (named : B
         (by_taken (SoFar repo at named (fetch q)) what PackEnd (of_fetch a t) taken refl h)
     one_part reply report is reports = absurd reports
 
-  module _ (q : LsRefsAsked) (t : ReferencesFacts) (h : RefsSoFar repo at named t) where
+  module _ (q : List Arg) (t : ReferencesFacts) (h : RefsSoFar repo at named t) where
     not_ended : (e : Entry) → slice_get repo.refs at ≡ Some e → t.refs ≡ repo.refs → ⊥
     not_ended e here same = elim (slice_get_cases repo.refs at).1 [
       | inl (x, within, is, also) ↦ omega (arith, within, ap length same, h.count)
@@ -330,12 +331,12 @@ module _ (repo : Repository) (rising : IsRising repo.refs) (at : ℕ) (named : B
     one_reference failed report is reports = absurd reports
     one_reference reply report is reports = absurd is
 
-  module _ (q : ObjectInfoAsked) (sizes : List (Option ℕ)) (h : IsFront sizes (map repo.object_size q.oids)) where
-    pub one_size : (next : ℕ) (id : ObjectName) → length sizes ≡ next → slice_get q.oids next ≡ Some id → (reply : Reply) (report : Report)
+  module _ (q : List Arg) (sizes : List (Option ℕ)) (h : IsFront sizes (map repo.object_size (oids_in q))) where
+    pub one_size : (next : ℕ) (id : ObjectName) → length sizes ≡ next → slice_get (oids_in q) next ≡ Some id → (reply : Reply) (report : Report)
         → IsReplyOf repo at named (ask_size id) reply → IsReportOf (NeedSize next) reply report → Onward reply report (object_info q) (of_sizes sizes)
     one_size next id count here (size_is size) report is reports =
         subst (λ (r : Report). Onward (size_is size) r (object_info q) (of_sizes sizes)) (sym reports)
         (by_taken (SoFar repo at named (object_info q)) what (Size size) (of_sizes sizes) taken refl
-        (front_more sizes (map repo.object_size q.oids) size h
-        (mapped repo.object_size q.oids (length sizes) id (ap (slice_get q.oids) count ∙ here) ∙ ap Some (sym is))))
+        (front_more sizes (map repo.object_size (oids_in q)) size h
+        (mapped repo.object_size (oids_in q) (length sizes) id (ap (slice_get (oids_in q)) count ∙ here) ∙ ap Some (sym is))))
     one_size next id count here reply report is reports = absurd is

@@ -6,7 +6,7 @@ use Rattle.std.proofs.Props.{props}
 use Rattle.std.proofs.Math.Logic.{∥∥₁_elim, ∥∥₁_map}
 use Rattle.std.proofs.lemmas.Option.{slice_get_cases}
 use Rattle.git_pkt.specs.Packets.{Pkt}
-use Rattle.git_msg.specs.Asked.{Asked, FetchAsked, fetch, ls_refs, object_info, only_negotiates}
+use Rattle.git_msg.specs.Asked.{Asked, fetch, ls_refs, object_info, only_negotiates, haves_in, oids_in, want_refs_in, wants_in}
 use Rattle.git_server.specs.declared.outcome.Outcome.{Outcome}
 use Rattle.git_msg.specs.declared.streams.RequestStream.{RequestStream}
 use Rattle.git_host.specs.Admissions.{AdmissionFacts, RepresentsAdmission, StandsAtStep}
@@ -36,6 +36,7 @@ use Rattle.git_host.specs.declared.report.HostStep.TheVariants as Step
 use Rattle.git_host.specs.declared.report.Need.{Need}
 use Rattle.git_host.specs.declared.report.Need.TheVariants as Needs
 use Rattle.git_store.proofs.StoreSteps.{any_moves}
+use Rattle.git_msg.specs.Arguments.{Arg}
 
 -- ---- by the phase
 
@@ -100,9 +101,9 @@ some_at f xs i within =
       | inr (past, none) ↦ absurd (omega (arith, past, within))
     ]
 
-have_within : (alone : Bool) (place : Place) (at : ℕ) (q : FetchAsked) (t : FetchFacts) (front : List Pkt) → step_at alone place ≡ AskHave at
-    → StandsAt place q t front → at < length q.haves
-have_within alone (At.Have next any) at q t front is h = let same : next ≡ at = cc in subst (λ (n : ℕ). n < length q.haves) same h.more
+have_within : (alone : Bool) (place : Place) (at : ℕ) (q : List Arg) (t : FetchFacts) (front : List Pkt) → step_at alone place ≡ AskHave at
+    → StandsAt place q t front → at < length (haves_in q)
+have_within alone (At.Have next any) at q t front is h = let same : next ≡ at = cc in subst (λ (n : ℕ). n < length (haves_in q)) same h.more
 have_within true At.Ready at q t front is h = absurd (cc)
 have_within false At.Ready at q t front is h = absurd (cc)
 have_within alone At.Header at q t front is h = absurd (cc)
@@ -150,21 +151,21 @@ module _ {A : Type 0} where
       let (a, represents) = admitting_facts admission m q f front h in
       let stands = subst (λ (step : AdmissionStep). StandsAtStep step (admission_format admission) (admission_asked admission) a (wanted_by admission))
       needed represents in
-      some_at ask_want (admission_asked admission).wants at stands.within
+      some_at ask_want (wants_in (admission_asked admission)) at stands.within
   question_in (Needs.WantRef at) (Admission admission) needed m q f front h =
       let (a, represents) = admitting_facts admission m q f front h in
       let stands = subst (λ (step : AdmissionStep). StandsAtStep step (admission_format admission) (admission_asked admission) a (wanted_by admission))
       needed represents in
-      some_at ask_want_ref (admission_asked admission).want_refs at stands.within
+      some_at ask_want_ref (want_refs_in (admission_asked admission)) at stands.within
   question_in (Needs.Have at) (Fetch answer) needed m q f front h =
       let (t, stands) = fetching_facts answer m q f front h in
-      some_at ask_have (fetch_asked answer).haves at
+      some_at ask_have (haves_in (fetch_asked answer)) at
       (have_within (only_negotiates (fetch_asked answer)) answer.place at (fetch_asked answer) t front needed stands)
   question_in Needs.Ready (Fetch answer) needed m q f front h = refl
   question_in Needs.Boundary (Fetch answer) needed m q f front h = refl
   question_in Needs.Pack (Fetch answer) needed m q f front h = refl
   question_in Needs.Reference (References answer) needed m q f front h = refl
-  question_in (Needs.Size at) (Sizes answer) needed m q f front h = some_at ask_size answer.request.asked.oids at needed.1
+  question_in (Needs.Size at) (Sizes answer) needed m q f front h = some_at ask_size (oids_in answer.request.asked) at needed.1
   question_in (Needs.Want at) (Fetch answer) needed m q f front h = absurd needed
   question_in (Needs.Want at) (References answer) needed m q f front h = absurd needed
   question_in (Needs.Want at) (Sizes answer) needed m q f front h = absurd needed

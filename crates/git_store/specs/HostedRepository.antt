@@ -6,7 +6,7 @@ use Rattle.git_pkt.specs.declared.fault.Fault.{Fault}
 use Rattle.git_pkt.specs.declared.fault.Kind.{Kind}
 use Rattle.git_pkt.specs.declared.fault.Kind.TheVariants.{UnknownRef}
 use Rattle.git_msg.specs.Admission.{IsUnbarred}
-use Rattle.git_msg.specs.Asked.{Asked, FetchAsked, fetch, ls_refs, object_info}
+use Rattle.git_msg.specs.Asked.{Asked, fetch, ls_refs, object_info, oids_in, want_refs_in, wants_in}
 use Rattle.git_msg.specs.Machine.RequestStreams.{AreAsked}
 use Rattle.git_server.specs.Admission.{barred}
 use Rattle.git_server.specs.Packs.{broken, whole}
@@ -18,12 +18,13 @@ use Rattle.git_server.specs.declared.outcome.Outcome.TheVariants.{Flush, Closed,
 use Rattle.git_host.specs.Admissions.{AdmissionFacts, IsRefusedBy}
 use Rattle.git_host.specs.HostSessions.{AtLast, Facts, HostSetting, IsCutShort, IsFront, of_fetch, of_references, of_sizes}
 use Rattle.git_host.specs.RepositoryFacts.{AreOfRepository}
+use Rattle.git_msg.specs.Arguments.{Arg}
 
 -- what was reported for the request is what the repository answers
 abbrev pub IsOfRepository : Repository → Asked → Facts → Type 0
 IsOfRepository repo (ls_refs q) (of_references t) = (t.refs ≡ repo.refs) × (t.unborn ≡ repo.unborn_head)
 IsOfRepository repo (fetch q) (of_fetch a t) = AreOfRepository whole repo q t
-IsOfRepository repo (object_info q) (of_sizes sizes) = sizes ≡ map repo.object_size q.oids
+IsOfRepository repo (object_info q) (of_sizes sizes) = sizes ≡ map repo.object_size (oids_in q)
 IsOfRepository repo q f = ⊥
 
 -- and so of each request
@@ -33,9 +34,9 @@ AllOfRepository repo (q ∷ qs) (f ∷ fs) = IsOfRepository repo q f × AllOfRep
 AllOfRepository repo _ _ = ⊥
 
 -- what was reported of what a fetch wants is what the repository answers
-pub record IsAdmittedBy (repo : Repository) (q : FetchAsked) (a : AdmissionFacts) : Type 0 where
-  pub wants : a.wants ≡ map repo.has q.wants
-  pub found : a.found ≡ map (found_ref repo.refs) q.want_refs
+pub record IsAdmittedBy (repo : Repository) (q : List Arg) (a : AdmissionFacts) : Type 0 where
+  pub wants : a.wants ≡ map repo.has (wants_in q)
+  pub found : a.found ≡ map (found_ref repo.refs) (want_refs_in q)
 
 abbrev pub IsAdmittedByRepository : Repository → Asked → Facts → Type 0
 IsAdmittedByRepository repo (fetch q) (of_fetch a t) = IsAdmittedBy repo q a
@@ -70,7 +71,7 @@ IsLostOfRepository repo q f = ⊥
 -- the store lacks what the request asks for, which is refused by this name, and so far this was reported as by the repository
 abbrev pub IsLackedByRepository : Repository → Kind → Asked → Facts → Type 0
 IsLackedByRepository repo kind (fetch q) (of_fetch a t) =
-    IsRefusedBy kind q a × IsFront a.wants (map repo.has q.wants) × IsFront a.found (map (found_ref repo.refs) q.want_refs)
+    IsRefusedBy kind q a × IsFront a.wants (map repo.has (wants_in q)) × IsFront a.found (map (found_ref repo.refs) (want_refs_in q))
 IsLackedByRepository repo kind q f = ⊥
 
 -- whatever these bytes ask for, this was reported for each request but the last as by the repository, and for the last so that Last holds of it

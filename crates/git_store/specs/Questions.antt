@@ -5,7 +5,7 @@ use Rattle.git_names.specs.ObjectName.{ObjectName}
 use Rattle.git_names.specs.NameBytes.{name_bytes}
 use Rattle.git_names.specs.RefName.{IsRefName}
 use Rattle.git_msg.specs.declared.Boundary.{Boundary}
-use Rattle.git_msg.specs.Asked.{Asked, FetchAsked, fetch, ls_refs, haves_of, oids_of, want_refs_of, wants_of}
+use Rattle.git_msg.specs.Asked.{Asked, arguments_in, fetch, ls_refs, haves_in, oids_in, want_refs_in, wants_in}
 use Rattle.git_server.specs.Repository.{Entry}
 use Rattle.git_store.specs.declared.store.Part.{Part}
 use Rattle.git_store.specs.declared.store.Part.TheVariants as Parts
@@ -17,6 +17,7 @@ use Rattle.git_host.specs.declared.report.Need.TheVariants.{Boundary as NeedBoun
 use Rattle.git_host.specs.declared.report.Report.{Report}
 use Rattle.git_host.specs.declared.report.Report.TheVariants.{Want, WantRef, Have, Ready, Boundary as BoundaryLine, BoundaryEnd, Pack, Progress}
 use Rattle.git_host.specs.declared.report.Report.TheVariants.{PackEnd, Reference, Unborn, ReferencesEnd, Size}
+use Rattle.git_msg.specs.Arguments.{Arg}
 
 -- what a store is asked: whether the client may have the object, the object of the reference, whether it has the object, whether it is ready
 -- to send a pack, the next line of the boundary, the next of the pack, the next of the references, and the size of the object
@@ -24,9 +25,9 @@ pub data Question : Type 0 where
   ask_want : ObjectName → Question
   ask_want_ref : List ℕ → Question
   ask_have : ObjectName → Question
-  ready : FetchAsked → Question
-  ask_boundary : FetchAsked → Question
-  ask_pack : FetchAsked → Question
+  ready : List Arg → Question
+  ask_boundary : List Arg → Question
+  ask_pack : List Arg → Question
   ask_reference : Question
   ask_size : ObjectName → Question
 
@@ -52,14 +53,14 @@ replied reply (Err fault) = failed
 
 -- what is asked for a request where this is needed, if it has something at that place
 abbrev pub question_of : Asked → Need → Option Question
-question_of asked (NeedWant at) = option_map ask_want (slice_get (wants_of asked) at)
-question_of asked (NeedWantRef at) = option_map ask_want_ref (slice_get (want_refs_of asked) at)
-question_of asked (NeedHave at) = option_map ask_have (slice_get (haves_of asked) at)
+question_of asked (NeedWant at) = option_map ask_want (slice_get (wants_in (arguments_in asked)) at)
+question_of asked (NeedWantRef at) = option_map ask_want_ref (slice_get (want_refs_in (arguments_in asked)) at)
+question_of asked (NeedHave at) = option_map ask_have (slice_get (haves_in (arguments_in asked)) at)
 question_of (fetch q) NeedReady = Some (ready q)
 question_of (fetch q) NeedBoundary = Some (ask_boundary q)
 question_of (fetch q) NeedPack = Some (ask_pack q)
 question_of (ls_refs q) NeedReference = Some ask_reference
-question_of asked (NeedSize at) = option_map ask_size (slice_get (oids_of asked) at)
+question_of asked (NeedSize at) = option_map ask_size (slice_get (oids_in (arguments_in asked)) at)
 question_of asked need = None
 
 -- the report of the reply, where this is needed

@@ -10,7 +10,7 @@ ghost use Rattle.git_store.specs.StoreMoves.{AnswersNeed, Asks, Begins, FailsNow
 
 use crate::store::{Listed, Part, Store, StoreFault};
 use git_host::{HostReported, HostServer, Need, Report, RequestAtHand};
-use git_msg::{Fetch, Request};
+use git_msg::{Fetch, ObjectWord, Request, TextWord};
 use git_names::{Oid, RefName, Steps};
 use std::alloc::Allocator;
 
@@ -98,7 +98,7 @@ fn ask_want_ref<S: Store, A: Allocator + Copy>(
     let Some(request) = server.request() else {
         unreachable!()
     };
-    let Some(name) = request.want_ref(at) else {
+    let Some(name) = request.arguments().text(TextWord::WantRef, at) else {
         unreachable!()
     };
     let id = store.want_ref(name)?;
@@ -208,7 +208,7 @@ fn want_at<A: Allocator + Copy>(server: &HostServer<A>, at: usize) -> Option<Oid
     ensures { option_map ask_want result ≡ question_at server.now (Need.Want at) }
 {
     let request = server.request()?;
-    request.wants().get(at).copied()
+    request.arguments().ids(ObjectWord::Want).get(at).copied()
 }
 
 // The object of the `have` line at this place.
@@ -216,7 +216,7 @@ fn have_at<A: Allocator + Copy>(server: &HostServer<A>, at: usize) -> Option<Oid
     ensures { option_map ask_have result ≡ question_at server.now (Need.Have at) }
 {
     let request = server.request()?;
-    request.haves().get(at).copied()
+    request.arguments().ids(ObjectWord::Have).get(at).copied()
 }
 
 // The object of the `oid` line at this place.
@@ -224,7 +224,11 @@ fn oid_at<A: Allocator + Copy>(server: &HostServer<A>, at: usize) -> Option<Oid>
     ensures { option_map ask_size result ≡ question_at server.now (Need.Size at) }
 {
     let request = server.request()?;
-    request.oids().get(at).copied()
+    request
+        .arguments()
+        .ids(ObjectWord::ObjectId)
+        .get(at)
+        .copied()
 }
 
 // The request at hand, if it is a fetch.

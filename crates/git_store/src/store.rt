@@ -1,7 +1,7 @@
 //! A host's own store, as a session asks it: one question after another. It answers each one, or fails.
 
 ghost use Rattle.std.specs.Prelude.{◌≡◌, ◌<◌, IfOk, Some, codes, length};
-ghost use Rattle.git_msg.specs.Asked.{Asked, FetchAsked};
+ghost use Rattle.git_msg.specs.Asked.{Asked};
 ghost use Rattle.git_store.specs.Questions.{Question, Reply, found, has, line, ready, replied, size_is};
 ghost use Rattle.git_store.specs.Questions.{IsListedWithin, IsPartWithin, listed_in, part_in};
 ghost use Rattle.git_host.specs.HostLookups.{asked_in};

@@ -9,7 +9,7 @@ use Rattle.git_names.specs.declared.reference.RefName.{RefName}
 use Rattle.git_pkt.specs.declared.fault.Kind.{Kind}
 use Rattle.git_pkt.specs.declared.fault.Kind.TheVariants.{BadLine, BadObjectName, BadRefName}
 use Rattle.git_msg.specs.Arguments.{most_limit}
-use Rattle.git_msg.specs.Asked.{Asked, command_asked}
+use Rattle.git_msg.specs.Asked.{Asked, arguments_in, command_asked}
 use Rattle.git_msg.specs.Checks.{Check, Refuses}
 use Rattle.git_msg.specs.References.{IsMaybeObjectName}
 use Rattle.git_msg.specs.declared.offers.Offer.{Offer}
@@ -34,7 +34,7 @@ use Rattle.gitwire.specs.WrittenForC.{boundary_of, given, object_name_check, ref
 use Rattle.gitwire.specs.declared.answer.GitwireAnswer.{GitwireAnswer}
 use Rattle.gitwire.specs.declared.answer.What.TheVariants as What
 use Rattle.gitwire.specs.declared.host_texts.Unread.{Unread}
-use Rattle.gitwire.specs.declared.numbers.ItemList.{ItemList}
+use Rattle.git_msg.specs.declared.words.Word.{Word}
 
 -- ---- a session begins
 
@@ -136,16 +136,16 @@ command_shown (Some asked) = command_number (command_asked asked)
 
 abbrev pub has_flag_at : ℕ → Option Asked → Bool
 has_flag_at number None = false
-has_flag_at number (Some asked) = is_set number asked
+has_flag_at number (Some asked) = is_set number (arguments_in asked)
 
 abbrev pub announcing_given_at : ℕ → Option Asked → GitwireAnswer
 announcing_given_at which None = answering What.Nothing
-announcing_given_at which (Some asked) = announcing_which which asked
+announcing_given_at which (Some asked) = announcing_which which (arguments_in asked)
 
 -- the text at an index of the list, if there is a request
-abbrev pub PutsAt : Option ItemList → ℕ → Option Asked → List ℕ → GitwireAnswer → List ℕ → Type 0
+abbrev pub PutsAt : Option Word → ℕ → Option Asked → List ℕ → GitwireAnswer → List ℕ → Type 0
 PutsAt list i None buffer answer filled = (answer ≡ answering What.Nothing) × (filled ≡ buffer)
-PutsAt list i (Some asked) buffer answer filled = PutsFrom list asked i buffer answer filled
+PutsAt list i (Some asked) buffer answer filled = PutsFrom list (arguments_in asked) i buffer answer filled
 
 -- the request is accepted, if one is asked about
 pub record AcceptsAnswers (old : HostServer Global) (answer : ℕ) (new : HostServer Global) : Type 0 where

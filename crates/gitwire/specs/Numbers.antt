@@ -5,8 +5,11 @@ use Rattle.git_names.specs.declared.object_format.Format.TheVariants.{Sha1, Sha2
 use Rattle.git_msg.specs.declared.arguments.Command.{Command}
 use Rattle.git_msg.specs.declared.arguments.Command.TheVariants.{LsRefs, Fetch, ObjectInfo}
 use Rattle.git_msg.specs.declared.flags.Flag.{Flag}
-use Rattle.gitwire.specs.declared.numbers.Given.{Given}
-use Rattle.gitwire.specs.declared.numbers.ItemList.{ItemList}
+use Rattle.git_msg.specs.declared.words.Word.{Word}
+use Rattle.git_msg.specs.declared.words.Word.TheVariants.{Object as of_object, Text as of_text}
+use Rattle.git_msg.specs.declared.words.ObjectWord.{ObjectWord}
+use Rattle.git_msg.specs.declared.words.TextWord.{TextWord}
+use Rattle.git_msg.specs.declared.words.NumberWord.{NumberWord}
 
 -- what a number means in a list
 abbrev pub numbered : {X : Type 0} → List X → ℕ → Option X
@@ -35,10 +38,12 @@ flags =
     Flag.Symrefs ∷ Flag.Peel ∷ Flag.Done ∷ Flag.ThinPack ∷ Flag.NoProgress ∷ Flag.IncludeTag ∷ Flag.OfsDelta
     ∷ Flag.DeepenRelative ∷ Flag.Size ∷ Flag.Unborn ∷ Flag.WaitForDone ∷ []
 
-abbrev pub given_numbers : List Given
-given_numbers = Given.Deepen ∷ Given.DeepenSince ∷ []
+-- the words before a number
+abbrev pub number_words : List NumberWord
+number_words = NumberWord.Deepen ∷ NumberWord.DeepenSince ∷ []
 
-abbrev pub item_lists : List ItemList
-item_lists =
-    ItemList.RefPrefixes ∷ ItemList.Wants ∷ ItemList.Haves ∷ ItemList.Shallows ∷ ItemList.DeepenNots ∷ ItemList.WantRefs
-    ∷ ItemList.Oids ∷ ItemList.Filters ∷ []
+-- the words before the items of a list
+abbrev pub item_words : List Word
+item_words =
+    of_text TextWord.RefPrefix ∷ of_object ObjectWord.Want ∷ of_object ObjectWord.Have ∷ of_object ObjectWord.Shallow ∷ of_text TextWord.DeepenNot
+    ∷ of_text TextWord.WantRef ∷ of_object ObjectWord.ObjectId ∷ of_text TextWord.Filter ∷ []

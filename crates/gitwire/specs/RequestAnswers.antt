@@ -6,19 +6,18 @@ use Rattle.git_names.specs.ObjectName.{hex_of}
 use Rattle.git_pkt.specs.declared.fault.Kind.{Kind}
 use Rattle.git_msg.specs.Advertisement.{everything}
 use Rattle.git_msg.specs.Arguments.{Arg, IsArgumentFault, ReadsAs, most_limit, written_text}
-use Rattle.git_msg.specs.Asked.{Asked, deepen_of, deepen_since_of, deepen_nots_of, filters_of, has_flag, haves_of, oids_of, ref_prefixes_of, shallows_of}
-use Rattle.git_msg.specs.Asked.{want_refs_of, wants_of}
+use Rattle.git_msg.specs.Asked.{Asked, flag_among, ids, number, texts}
 use Rattle.git_msg.specs.Checks.{Passes, Refuses}
 use Rattle.git_msg.specs.Machine.HeldRequest.{IsEmpty, IsRefused, Keeps, add_checks, command_of, format_of}
 use Rattle.git_msg.specs.Lines.{end_checks}
 use Rattle.git_msg.specs.declared.requests.Request.{Request}
-use Rattle.gitwire.specs.Numbers.{commands, flags, formats, given_numbers, numbered}
+use Rattle.gitwire.specs.Numbers.{commands, flags, formats, number_words, numbered}
 use Rattle.gitwire.specs.Buffers.{Fills}
 use Rattle.gitwire.specs.Answers.{answering, answering_fault, answering_packet, what_number}
 use Rattle.gitwire.specs.declared.answer.GitwireAnswer.{GitwireAnswer}
 use Rattle.gitwire.specs.declared.answer.What.TheVariants as What
-use Rattle.gitwire.specs.declared.numbers.Given.{Given}
-use Rattle.gitwire.specs.declared.numbers.ItemList.{ItemList}
+use Rattle.git_msg.specs.declared.words.Word.{Word}
+use Rattle.git_msg.specs.declared.words.Word.TheVariants.{Object as of_object, Text as of_text}
 
 -- done, with a number
 abbrev pub announcing_number : ℕ → GitwireAnswer
@@ -85,34 +84,24 @@ pub record EndsAnswers (asked : Asked) (answer : GitwireAnswer) : Type 0 where
   pub answer_is : answer ≡ announcing_result judged
 
 -- whether the flag of this number is set; a number of no flag is not
-abbrev pub is_set : ℕ → Asked → Bool
-is_set number asked = unwrap_or (option_map (λ flag. has_flag flag asked) (numbered flags number)) false
-
--- the number, if it was set
-abbrev pub given_of : Given → Asked → Option ℕ
-given_of Given.Deepen = deepen_of
-given_of Given.DeepenSince = deepen_since_of
+abbrev pub is_set : ℕ → List Arg → Bool
+is_set number args = unwrap_or (option_map (flag_among args) (numbered flags number)) false
 
 -- what is reported to C about a number that may have been set
 abbrev pub announcing_given : Option ℕ → GitwireAnswer
 announcing_given None = answering What.Nothing
 announcing_given (Some number) = announcing_number number
 
--- what is reported to C about the number of the request that this number selects
-abbrev pub announcing_which : ℕ → Asked → GitwireAnswer
-announcing_which number asked =
-    unwrap_or (option_map (λ which. announcing_given (given_of which asked)) (numbered given_numbers number)) (answering What.BadValue)
+-- what is reported to C about the number among the arguments that this number selects
+abbrev pub announcing_which : ℕ → List Arg → GitwireAnswer
+announcing_which which args =
+    unwrap_or (option_map (λ word. announcing_given (number word args)) (numbered number_words which)) (answering What.BadValue)
 
--- the text at an index of a list; an object name as its digits
-abbrev pub item_of : ItemList → Asked → ℕ → Option (List ℕ)
-item_of ItemList.RefPrefixes asked i = slice_get (ref_prefixes_of asked) i
-item_of ItemList.Wants asked i = option_map hex_of (slice_get (wants_of asked) i)
-item_of ItemList.Haves asked i = option_map hex_of (slice_get (haves_of asked) i)
-item_of ItemList.Shallows asked i = option_map hex_of (slice_get (shallows_of asked) i)
-item_of ItemList.DeepenNots asked i = slice_get (deepen_nots_of asked) i
-item_of ItemList.WantRefs asked i = slice_get (want_refs_of asked) i
-item_of ItemList.Oids asked i = option_map hex_of (slice_get (oids_of asked) i)
-item_of ItemList.Filters asked i = slice_get (filters_of asked) i
+-- the text at an index of those after the word; an object name as its digits
+abbrev pub item_of : Word → List Arg → ℕ → Option (List ℕ)
+item_of (of_object word) args i = option_map hex_of (slice_get (ids word args) i)
+item_of (of_text word) args i = slice_get (texts word args) i
+item_of word args i = None
 
 -- the text, if there is one
 abbrev pub PutsItem : Option (List ℕ) → List ℕ → GitwireAnswer → List ℕ → Type 0
@@ -120,6 +109,6 @@ PutsItem None buffer answer filled = (answer ≡ answering What.Nothing) × (fil
 PutsItem (Some text) buffer answer filled = Fills text buffer answer filled
 
 -- the text at an index of the list, if there is such a list
-abbrev pub PutsFrom : Option ItemList → Asked → ℕ → List ℕ → GitwireAnswer → List ℕ → Type 0
-PutsFrom None asked i buffer answer filled = (answer ≡ answering What.BadValue) × (filled ≡ buffer)
-PutsFrom (Some list) asked i buffer answer filled = PutsItem (item_of list asked i) buffer answer filled
+abbrev pub PutsFrom : Option Word → List Arg → ℕ → List ℕ → GitwireAnswer → List ℕ → Type 0
+PutsFrom None args i buffer answer filled = (answer ≡ answering What.BadValue) × (filled ≡ buffer)
+PutsFrom (Some word) args i buffer answer filled = PutsItem (item_of word args i) buffer answer filled

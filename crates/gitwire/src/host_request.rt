@@ -1,20 +1,18 @@
 //! The request at hand of a host's server that C holds.
 
 ghost use Rattle.std.specs.Prelude.{◌≡◌, false};
-ghost use Rattle.git_host.specs.HostLookups.{asked_in, request_of};
+ghost use Rattle.git_host.specs.HostLookups.{request_of};
 ghost use Rattle.gitwire.specs.Answers.{answering};
 ghost use Rattle.gitwire.specs.Calls.{HasNone, Of};
 ghost use Rattle.gitwire.specs.Handles.{host_in};
 ghost use Rattle.gitwire.specs.HostAnswers.{PutsAt, command_shown, has_flag_at, announcing_given_at};
-ghost use Rattle.gitwire.specs.Numbers.{item_lists, numbered};
-ghost use Rattle.gitwire.specs.RequestAnswers.{PutsFrom, is_set, announcing_which};
+ghost use Rattle.gitwire.specs.Numbers.{item_words, numbered};
 
 use crate::answer::{GitwireAnswer, What};
 use crate::handles::{GitwireHost, Holds};
-use crate::numbers::{Given, ItemList, flag_numbered, number_of_command};
-use crate::request::announce_number;
-use crate::request_items::{put_name_if_any, put_text_if_any};
-use git_host::{HostServer, RequestAtHand};
+use crate::numbers::number_of_command;
+use crate::request_items::{self, given_number, put_item};
+use git_host::HostServer;
 use std::alloc::Global;
 
 /// The number of the command of the request that is asked about or answered; 0 if there is none, and for a handle without a server.
@@ -57,16 +55,7 @@ fn has_flag(server: &HostServer<Global>, number: u32) -> bool
     ensures { result ≡ has_flag_at number (request_of server.now) }
 {
     match server.request() {
-        Some(request) => is_set(&request, number),
-        None => false,
-    }
-}
-
-fn is_set(request: &RequestAtHand<'_, Global>, number: u32) -> bool
-    ensures { result ≡ is_set number (asked_in request.now) }
-{
-    match flag_numbered(number) {
-        Some(flag) => request.has(flag),
+        Some(request) => request_items::has_flag(request.arguments(), number),
         None => false,
     }
 }
@@ -93,23 +82,7 @@ fn number(server: &HostServer<Global>, which: u32) -> GitwireAnswer
     ensures { result ≡ announcing_given_at which (request_of server.now) }
 {
     match server.request() {
-        Some(request) => given_number(&request, which),
-        None => GitwireAnswer::of(What::Nothing),
-    }
-}
-
-fn given_number(request: &RequestAtHand<'_, Global>, which: u32) -> GitwireAnswer
-    ensures { result ≡ announcing_which which (asked_in request.now) }
-{
-    let Some(which) = Given::numbered(which) else {
-        return GitwireAnswer::of(What::BadValue);
-    };
-    let given = match which {
-        Given::Deepen => request.deepen(),
-        Given::DeepenSince => request.deepen_since(),
-    };
-    match given {
-        Some(number) => announce_number(number),
+        Some(request) => given_number(request.arguments(), which),
         None => GitwireAnswer::of(What::Nothing),
     }
 }
@@ -125,7 +98,7 @@ pub extern "C" fn gitwire_host_item(
     index: usize,
     buffer: &mut [u8],
 ) -> GitwireAnswer
-    ensures { Of (host_in host.old) (host_in host.new) (λ had. PutsAt (numbered item_lists list) index (request_of had) buffer.old result buffer.new)
+    ensures { Of (host_in host.old) (host_in host.new) (λ had. PutsAt (numbered item_words list) index (request_of had) buffer.old result buffer.new)
         (HasNone buffer.old result buffer.new) }
 {
     let Some(taken) = host.take(alloc) else {
@@ -137,33 +110,10 @@ pub extern "C" fn gitwire_host_item(
 }
 
 fn item(server: &HostServer<Global>, list: u32, index: usize, buffer: &mut [u8]) -> GitwireAnswer
-    ensures { PutsAt (numbered item_lists list) index (request_of server.now) buffer.old result buffer.new }
+    ensures { PutsAt (numbered item_words list) index (request_of server.now) buffer.old result buffer.new }
 {
     match server.request() {
-        Some(request) => put_item(&request, list, index, buffer),
+        Some(request) => put_item(request.arguments(), list, index, buffer),
         None => GitwireAnswer::of(What::Nothing),
-    }
-}
-
-fn put_item(
-    request: &RequestAtHand<'_, Global>,
-    list: u32,
-    index: usize,
-    buffer: &mut [u8],
-) -> GitwireAnswer
-    ensures { PutsFrom (numbered item_lists list) (asked_in request.now) index buffer.old result buffer.new }
-{
-    let Some(list) = ItemList::numbered(list) else {
-        return GitwireAnswer::of(What::BadValue);
-    };
-    match list {
-        ItemList::RefPrefixes => put_text_if_any(request.ref_prefix(index), buffer),
-        ItemList::Wants => put_name_if_any(request.wants().get(index), buffer),
-        ItemList::Haves => put_name_if_any(request.haves().get(index), buffer),
-        ItemList::Shallows => put_name_if_any(request.shallows().get(index), buffer),
-        ItemList::DeepenNots => put_text_if_any(request.deepen_not(index), buffer),
-        ItemList::WantRefs => put_text_if_any(request.want_ref(index), buffer),
-        ItemList::Oids => put_name_if_any(request.oids().get(index), buffer),
-        ItemList::Filters => put_text_if_any(request.filter(index), buffer),
     }
 }

@@ -1,9 +1,9 @@
 //! Names for the numbers that C passes: each kind begins at 1, and 0 means nothing.
 
 ghost use Rattle.std.specs.Prelude.{◌≡◌, Some};
-ghost use Rattle.gitwire.specs.Numbers.{commands, flags, formats, format_number, command_number, item_lists, given_numbers, numbered};
+ghost use Rattle.gitwire.specs.Numbers.{commands, flags, formats, format_number, command_number, item_words, number_words, numbered};
 
-use git_msg::{Command, Flag};
+use git_msg::{Command, Flag, NumberWord, ObjectWord, TextWord, Word};
 use git_names::Format;
 
 /// The format that C means by this number; none if there is no such format.
@@ -72,54 +72,30 @@ pub(crate) fn flag_numbered(number: u32) -> Option<Flag>
     }
 }
 
-/// A number that a request may give.
-#[derive(Clone, Copy, Debug)]
-pub(crate) enum Given {
-    Deepen,
-    DeepenSince,
-}
-
-impl Given {
-    /// The one with this number.
-    pub(crate) fn numbered(number: u32) -> Option<Given>
-        ensures { result ≡ numbered given_numbers number }
-    {
-        match number {
-            1 => Some(Given::Deepen),
-            2 => Some(Given::DeepenSince),
-            _ => None,
-        }
+/// The word before the number that C means by this number; none if there is no such word.
+pub(crate) fn number_word(number: u32) -> Option<NumberWord>
+    ensures { result ≡ numbered number_words number }
+{
+    match number {
+        1 => Some(NumberWord::Deepen),
+        2 => Some(NumberWord::DeepenSince),
+        _ => None,
     }
 }
 
-/// A list of a request.
-#[derive(Clone, Copy, Debug)]
-pub(crate) enum ItemList {
-    RefPrefixes,
-    Wants,
-    Haves,
-    Shallows,
-    DeepenNots,
-    WantRefs,
-    Oids,
-    Filters,
-}
-
-impl ItemList {
-    /// The list with this number.
-    pub(crate) fn numbered(number: u32) -> Option<ItemList>
-        ensures { result ≡ numbered item_lists number }
-    {
-        match number {
-            1 => Some(ItemList::RefPrefixes),
-            2 => Some(ItemList::Wants),
-            3 => Some(ItemList::Haves),
-            4 => Some(ItemList::Shallows),
-            5 => Some(ItemList::DeepenNots),
-            6 => Some(ItemList::WantRefs),
-            7 => Some(ItemList::Oids),
-            8 => Some(ItemList::Filters),
-            _ => None,
-        }
+/// The word before the items of the list that C means by this number; none if there is no such list.
+pub(crate) fn item_word(number: u32) -> Option<Word>
+    ensures { result ≡ numbered item_words number }
+{
+    match number {
+        1 => Some(Word::Text(TextWord::RefPrefix)),
+        2 => Some(Word::Object(ObjectWord::Want)),
+        3 => Some(Word::Object(ObjectWord::Have)),
+        4 => Some(Word::Object(ObjectWord::Shallow)),
+        5 => Some(Word::Text(TextWord::DeepenNot)),
+        6 => Some(Word::Text(TextWord::WantRef)),
+        7 => Some(Word::Object(ObjectWord::ObjectId)),
+        8 => Some(Word::Text(TextWord::Filter)),
+        _ => None,
     }
 }

@@ -1,20 +1,19 @@
 //! A request that C holds.
 
 ghost use Rattle.std.specs.Prelude.{◌≡◌, MatchOption, None, false};
+ghost use Rattle.git_msg.specs.Asked.{arguments_in};
 ghost use Rattle.git_msg.specs.Machine.HeldRequest.{asked_of, command_of, format_of};
 ghost use Rattle.gitwire.specs.Calls.{HasNone, Of, On};
 ghost use Rattle.gitwire.specs.Handles.{request_in};
-ghost use Rattle.gitwire.specs.Numbers.{command_number, format_number, item_lists, numbered};
+ghost use Rattle.gitwire.specs.Numbers.{command_number, format_number, item_words, numbered};
 ghost use Rattle.gitwire.specs.RequestAnswers.{AddsLine, AddsAnswers, EndsAnswers, Makes, MeanNoRequest, MeanRequest, PutsFrom};
 ghost use Rattle.gitwire.specs.Answers.{answering};
 ghost use Rattle.gitwire.specs.RequestAnswers.{is_set, announcing_number, announcing_result, announcing_which};
 
 use crate::answer::{GitwireAnswer, What};
 use crate::handles::{GitwireRequest, Holds, fill};
-use crate::numbers::{
-    Given, command_numbered, flag_numbered, format_numbered, number_of_command, number_of_format,
-};
-use crate::request_items::put_item;
+use crate::numbers::{command_numbered, format_numbered, number_of_command, number_of_format};
+use crate::request_items::{given_number, has_flag, put_item};
 use git_msg::{Limits, Offer, Request, read_argument};
 use git_names::Steps;
 use git_pkt::{Fault, Kind};
@@ -93,7 +92,7 @@ fn add_line(request: &mut Request<Global>, line: &[u8]) -> Result<(), Kind>
     // An offer of everything, so that a line is checked by its own text alone.
     let offer = Offer::everything(request.format());
     match read_argument(request.command(), &offer, line, &mut Steps::new()) {
-        Ok(argument) => request.add(argument),
+        Ok(argument) => request.add(&argument),
         Err(kind) => Err(kind),
     }
 }
@@ -167,23 +166,14 @@ pub extern "C" fn gitwire_request_flag(
     request: &mut GitwireRequest,
     flag: u32,
 ) -> bool
-    ensures { Of (request_in request.old) (request_in request.new) (λ had. result ≡ is_set flag (asked_of had)) (result ≡ false) }
+    ensures { Of (request_in request.old) (request_in request.new) (λ had. result ≡ is_set flag (arguments_in (asked_of had))) (result ≡ false) }
 {
     let Some(taken) = request.take(alloc) else {
         return false;
     };
-    let answer = has_flag(&taken.inner, flag);
+    let answer = has_flag(taken.inner.arguments(), flag);
     request.put(taken);
     answer
-}
-
-fn has_flag(request: &Request<Global>, number: u32) -> bool
-    ensures { result ≡ is_set number (asked_of request.now) }
-{
-    match flag_numbered(number) {
-        Some(flag) => request.has(flag),
-        None => false,
-    }
 }
 
 /// A number of the request, `DEEPEN` or `DEEPEN_SINCE`: `Done`, and `offset` is the number; `Nothing` if it was not set; `BadValue`; or
@@ -194,30 +184,14 @@ pub extern "C" fn gitwire_request_number(
     request: &mut GitwireRequest,
     which: u32,
 ) -> GitwireAnswer
-    ensures { Of (request_in request.old) (request_in request.new) (λ had. result ≡ announcing_which which (asked_of had)) (result ≡ answering What.NoHandle) }
+    ensures { Of (request_in request.old) (request_in request.new) (λ had. result ≡ announcing_which which (arguments_in (asked_of had))) (result ≡ answering What.NoHandle) }
 {
     let Some(taken) = request.take(alloc) else {
         return GitwireAnswer::of(What::NoHandle);
     };
-    let answer = given_number(&taken.inner, which);
+    let answer = given_number(taken.inner.arguments(), which);
     request.put(taken);
     answer
-}
-
-fn given_number(request: &Request<Global>, which: u32) -> GitwireAnswer
-    ensures { result ≡ announcing_which which (asked_of request.now) }
-{
-    let Some(which) = Given::numbered(which) else {
-        return GitwireAnswer::of(What::BadValue);
-    };
-    let given = match which {
-        Given::Deepen => request.deepen(),
-        Given::DeepenSince => request.deepen_since(),
-    };
-    match given {
-        Some(number) => announce_number(number),
-        None => GitwireAnswer::of(What::Nothing),
-    }
 }
 
 /// Writes the text at an index of a list, from `REF_PREFIXES` to `FILTERS`, to the front of the buffer, an object name as its digits.
@@ -231,13 +205,13 @@ pub extern "C" fn gitwire_request_item(
     buffer: &mut [u8],
 ) -> GitwireAnswer
     ensures { Of (request_in request.old) (request_in request.new)
-        (λ had. PutsFrom (numbered item_lists list) (asked_of had) index buffer.old result buffer.new)
+        (λ had. PutsFrom (numbered item_words list) (arguments_in (asked_of had)) index buffer.old result buffer.new)
         (HasNone buffer.old result buffer.new) }
 {
     let Some(taken) = request.take(alloc) else {
         return GitwireAnswer::of(What::NoHandle);
     };
-    let answer = put_item(&taken.inner, list, index, buffer);
+    let answer = put_item(taken.inner.arguments(), list, index, buffer);
     request.put(taken);
     answer
 }

@@ -1,39 +1,58 @@
-//! The items of a request's lists, on their way to a buffer of C.
+//! The arguments of a request, on their way to C.
 
+ghost use Rattle.std.specs.Prelude.{◌≡◌};
 ghost use Rattle.std.specs.Option.{option_copied, option_map};
 ghost use Rattle.git_names.specs.ObjectName.{hex_of};
-ghost use Rattle.git_msg.specs.Machine.HeldRequest.{asked_of};
-ghost use Rattle.gitwire.specs.Numbers.{item_lists, numbered};
-ghost use Rattle.gitwire.specs.RequestAnswers.{PutsFrom, PutsItem};
+ghost use Rattle.gitwire.specs.Numbers.{item_words, numbered};
+ghost use Rattle.gitwire.specs.RequestAnswers.{PutsFrom, PutsItem, announcing_which, is_set};
 
 use crate::answer::{GitwireAnswer, What};
 use crate::buffers::fill;
-use crate::numbers::ItemList;
-use git_msg::Request;
+use crate::numbers::{flag_numbered, item_word, number_word};
+use crate::request::announce_number;
+use git_msg::{KeptArguments, Word};
 use git_names::Oid;
 use std::alloc::Global;
 
+/// Whether the flag of this number is among the arguments.
+pub(crate) fn has_flag(arguments: &KeptArguments<Global>, number: u32) -> bool
+    ensures { result ≡ is_set number arguments.now.asked }
+{
+    match flag_numbered(number) {
+        Some(flag) => arguments.has(flag),
+        None => false,
+    }
+}
+
+/// What is reported for the number among the arguments that this number selects.
+pub(crate) fn given_number(arguments: &KeptArguments<Global>, which: u32) -> GitwireAnswer
+    ensures { result ≡ announcing_which which arguments.now.asked }
+{
+    let Some(word) = number_word(which) else {
+        return GitwireAnswer::of(What::BadValue);
+    };
+    match arguments.number(word) {
+        Some(number) => announce_number(number),
+        None => GitwireAnswer::of(What::Nothing),
+    }
+}
+
 /// Writes the item at an index of the list of this number to the front of the buffer.
 pub(crate) fn put_item(
-    request: &Request<Global>,
+    arguments: &KeptArguments<Global>,
     list: u32,
     index: usize,
     buffer: &mut [u8],
 ) -> GitwireAnswer
-    ensures { PutsFrom (numbered item_lists list) (asked_of request.now) index buffer.old result buffer.new }
+    ensures { PutsFrom (numbered item_words list) arguments.now.asked index buffer.old result buffer.new }
 {
-    let Some(list) = ItemList::numbered(list) else {
+    let Some(word) = item_word(list) else {
         return GitwireAnswer::of(What::BadValue);
     };
-    match list {
-        ItemList::RefPrefixes => put_text_if_any(request.ref_prefix(index), buffer),
-        ItemList::Wants => put_name_if_any(request.wants().get(index), buffer),
-        ItemList::Haves => put_name_if_any(request.haves().get(index), buffer),
-        ItemList::Shallows => put_name_if_any(request.shallows().get(index), buffer),
-        ItemList::DeepenNots => put_text_if_any(request.deepen_not(index), buffer),
-        ItemList::WantRefs => put_text_if_any(request.want_ref(index), buffer),
-        ItemList::Oids => put_name_if_any(request.oids().get(index), buffer),
-        ItemList::Filters => put_text_if_any(request.filter(index), buffer),
+    match word {
+        Word::Object(word) => put_name_if_any(arguments.ids(word).get(index), buffer),
+        Word::Text(word) => put_text_if_any(arguments.text(word, index), buffer),
+        Word::Flag(_) | Word::Number(_) => GitwireAnswer::of(What::Nothing),
     }
 }
 

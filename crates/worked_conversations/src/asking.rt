@@ -45,7 +45,7 @@ fn added(request: &mut Request<Global>, format: Format, text: &[u8]) -> Option<R
     let Some(argument) = any_argument(format, text) else {
         return None;
     };
-    match request.add(argument) {
+    match request.add(&argument) {
         Ok(()) => Some(Ok(request.kept())),
         Err(kind) => Some(Err(kind)),
     }

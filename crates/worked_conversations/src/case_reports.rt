@@ -7,7 +7,7 @@ use crate::script::Reply;
 use crate::texts::copied;
 use crate::trouble::Trouble;
 use git_host::{HostReported, HostServer, Need, Report, RequestAtHand};
-use git_msg::Boundary;
+use git_msg::{Boundary, ObjectWord, TextWord};
 use git_names::{Oid, RefName, Steps};
 use hex::ToHex;
 use std::alloc::Global;
@@ -48,10 +48,28 @@ fn question(alloc: Global, server: &HostServer<Global>, need: Need) -> Result<St
         return Err(Trouble::Breaks("a host is asked without a request"));
     };
     match need {
-        Need::Want(at) => about_object(alloc, "want", request.wants(), at),
-        Need::WantRef(at) => about_reference(alloc, request.want_ref(at)),
-        Need::Have(at) => about_object(alloc, "have", request.haves(), at),
-        Need::Size(at) => about_object(alloc, "size", request.oids(), at),
+        Need::Want(at) => about_object(
+            alloc,
+            "want",
+            request.arguments().ids(ObjectWord::Want),
+            at,
+        ),
+        Need::WantRef(at) => about_reference(
+            alloc,
+            request.arguments().text(TextWord::WantRef, at),
+        ),
+        Need::Have(at) => about_object(
+            alloc,
+            "have",
+            request.arguments().ids(ObjectWord::Have),
+            at,
+        ),
+        Need::Size(at) => about_object(
+            alloc,
+            "size",
+            request.arguments().ids(ObjectWord::ObjectId),
+            at,
+        ),
         Need::Ready => Ok(String::from_str(alloc, "ready")?),
         Need::Boundary => Ok(String::from_str(alloc, "boundary")?),
         Need::Pack => Ok(String::from_str(alloc, "pack")?),

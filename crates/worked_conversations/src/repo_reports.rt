@@ -5,7 +5,7 @@ ghost use Rattle.std.specs.Prelude.{◌≡◌, ◌<◌, length};
 use crate::hosts::{Reports, Verdict};
 use crate::trouble::Trouble;
 use git_host::{HostReported, HostServer, LONGEST_PART, Need, Report, RequestAtHand};
-use git_msg::Fetch;
+use git_msg::{Fetch, ObjectWord, TextWord};
 use git_names::{Oid, RefName, Steps};
 use git_server::{RefEntry, Repo};
 use std::alloc::{AllocError, Global};
@@ -65,7 +65,7 @@ impl<R: Repo> RepoReports<R> {
     }
 
     fn want(&self, server: &mut HostServer<Global>, at: usize) -> Result<HostReported, Trouble> {
-        let object = object_at(at_hand(server)?.wants(), at)?;
+        let object = object_at(at_hand(server)?.arguments().ids(ObjectWord::Want), at)?;
         Ok(server.report(Report::Want(self.repo.has(&object))))
     }
 
@@ -75,7 +75,7 @@ impl<R: Repo> RepoReports<R> {
         at: usize,
     ) -> Result<HostReported, Trouble> {
         let request = at_hand(server)?;
-        let Some(name) = request.want_ref(at) else {
+        let Some(name) = request.arguments().text(TextWord::WantRef, at) else {
             return Err(Trouble::Breaks("a host is asked about no reference"));
         };
         let found = self.repo.find(name);
@@ -83,7 +83,7 @@ impl<R: Repo> RepoReports<R> {
     }
 
     fn have(&self, server: &mut HostServer<Global>, at: usize) -> Result<HostReported, Trouble> {
-        let object = object_at(at_hand(server)?.haves(), at)?;
+        let object = object_at(at_hand(server)?.arguments().ids(ObjectWord::Have), at)?;
         Ok(server.report(Report::Have(self.repo.has(&object))))
     }
 
@@ -93,7 +93,7 @@ impl<R: Repo> RepoReports<R> {
     }
 
     fn size(&self, server: &mut HostServer<Global>, at: usize) -> Result<HostReported, Trouble> {
-        let object = object_at(at_hand(server)?.oids(), at)?;
+        let object = object_at(at_hand(server)?.arguments().ids(ObjectWord::ObjectId), at)?;
         Ok(server.report(Report::Size(self.repo.object_size(&object))))
     }
 

@@ -8,7 +8,7 @@ use crate::runs::Run;
 use crate::setup::{MANY, limits};
 use crate::texts::append;
 use crate::trouble::Trouble;
-use git_msg::{AdmitsAll, Offer, ReadGot, Request, RequestReader};
+use git_msg::{AdmitsAll, KeptArguments, Offer, ReadGot, Request, RequestReader, TextWord, Word};
 use git_names::{Oid, Steps};
 use git_pkt::{Fault, Got, Packet, PacketReader, text};
 use hex::ToHex;
@@ -21,25 +21,14 @@ struct Keeper {
     in_arguments: bool,
 }
 
-// Appends the words whose flags are set, a line each.
-fn append_flags(lines: &mut Vec<u8>, flags: &[(bool, &str)]) -> Result<(), AllocError> {
-    for (is_set, name) in flags {
-        if *is_set {
-            append(lines, name.as_bytes())?;
-            append(lines, b"\n")?;
-        }
-    }
-    Ok(())
-}
-
 // Appends a line of a word and a text, without the spaces at its end.
 fn append_text(
     alloc: Global,
     lines: &mut Vec<u8>,
-    word: &str,
+    word: &[u8],
     text: &[u8],
 ) -> Result<(), AllocError> {
-    append(lines, word.as_bytes())?;
+    append(lines, word)?;
     if !text.is_empty() {
         append(lines, b" ")?;
         append(lines, escaped(alloc, text)?.as_slice().trim_ascii_end())?;
@@ -47,11 +36,34 @@ fn append_text(
     append(lines, b"\n")
 }
 
+// Appends the lines of the arguments with the word.
+fn append_word(
+    alloc: Global,
+    lines: &mut Vec<u8>,
+    arguments: &KeptArguments<Global>,
+    word: Word,
+) -> Result<(), AllocError> {
+    let name = word.keyword().trim_ascii_end();
+    match word {
+        Word::Flag(flag) if !arguments.has(flag) => Ok(()),
+        Word::Flag(_) => append_text(alloc, lines, name, b""),
+        Word::Object(word) => append_objects(alloc, lines, name, arguments.ids(word)),
+        Word::Text(word) => append_texts(alloc, lines, name, arguments, word),
+        Word::Number(word) => match arguments.number(word) {
+            Some(number) => {
+                let number = format!(in alloc; "{number}")?;
+                append_text(alloc, lines, name, number.as_bytes())
+            }
+            None => Ok(()),
+        },
+    }
+}
+
 // Appends lines of a word and an object name.
 fn append_objects(
     alloc: Global,
     lines: &mut Vec<u8>,
-    word: &str,
+    word: &[u8],
     ids: &[Oid],
 ) -> Result<(), AllocError> {
     for id in ids {
@@ -60,49 +72,17 @@ fn append_objects(
     Ok(())
 }
 
-// Appends the line of a number, if the request has it.
-fn append_number(
+// Appends lines of a word and a text.
+fn append_texts(
     alloc: Global,
     lines: &mut Vec<u8>,
-    word: &str,
-    number: Option<u64>,
-) -> Result<(), AllocError> {
-    match number {
-        Some(number) => {
-            let number = format!(in alloc; "{number}")?;
-            append_text(alloc, lines, word, number.as_bytes())
-        }
-        None => Ok(()),
-    }
-}
-
-// Appends how a request cuts off the history.
-fn append_shallow(
-    alloc: Global,
-    lines: &mut Vec<u8>,
-    request: &Request<Global>,
-) -> Result<(), AllocError> {
-    append_objects(alloc, lines, "shallow", request.shallows())?;
-    append_number(alloc, lines, "deepen", request.deepen())?;
-    append_number(alloc, lines, "deepen-since", request.deepen_since())?;
-    for i in 0..MANY {
-        match request.deepen_not(i) {
-            Some(revision) => append_text(alloc, lines, "deepen-not", revision)?,
-            None => break,
-        }
-    }
-    append_flags(lines, &[(request.deepen_relative(), "deepen-relative")])
-}
-
-// Appends the filters of a request.
-fn append_filters(
-    alloc: Global,
-    lines: &mut Vec<u8>,
-    request: &Request<Global>,
+    name: &[u8],
+    arguments: &KeptArguments<Global>,
+    word: TextWord,
 ) -> Result<(), AllocError> {
     for i in 0..MANY {
-        match request.filter(i) {
-            Some(spec) => append_text(alloc, lines, "filter", spec)?,
+        match arguments.text(word, i) {
+            Some(text) => append_text(alloc, lines, name, text)?,
             None => break,
         }
     }
@@ -149,25 +129,10 @@ fn append_request(
     let (format, kept) = (request.format().name(), request.kept());
     let head = format!(in alloc; "request {command} {format} kept {kept}\n")?;
     append(lines, head.as_bytes())?;
-    let flags = [
-        (request.peel(), "peel"),
-        (request.symrefs(), "symrefs"),
-        (request.unborn(), "unborn"),
-        (request.thin_pack(), "thin-pack"),
-        (request.no_progress(), "no-progress"),
-        (request.include_tag(), "include-tag"),
-        (request.ofs_delta(), "ofs-delta"),
-        (request.wait_for_done(), "wait-for-done"),
-    ];
-    append_flags(lines, &flags)?;
-    append_filters(alloc, lines, request)?;
-    append_ref_prefixes(alloc, lines, request)?;
-    append_shallow(alloc, lines, request)?;
-    append_objects(alloc, lines, "want", request.wants())?;
-    append_want_refs(alloc, lines, request)?;
-    append_objects(alloc, lines, "have", request.haves())?;
-    append_flags(lines, &[(request.done(), "done"), (request.size(), "size")])?;
-    append_objects(alloc, lines, "oid", request.oids())
+    for word in request.command().words() {
+        append_word(alloc, lines, request.arguments(), *word)?;
+    }
+    Ok(())
 }
 
 // Appends the line of a packet that was taken, if it is an argument.
@@ -179,7 +144,7 @@ fn append_kept(
 ) -> Result<(), AllocError> {
     match packet {
         Packet::Payload(payload) if keeper.in_arguments => {
-            append_text(alloc, lines, "kept", text(payload))
+            append_text(alloc, lines, b"kept", text(payload))
         }
         Packet::Delim => {
             keeper.in_arguments = true;

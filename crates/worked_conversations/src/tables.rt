@@ -9,7 +9,7 @@ use crate::setup::{limits, offer};
 use crate::texts::{append, append_str};
 use crate::trouble::Trouble;
 use crate::wordings::shown;
-use git_msg::{Argument, Caps, Command, read_capability, read_reference};
+use git_msg::{Argument, Caps, Command, read_capability, read_reference, word_at};
 use git_names::{Format, Oid, RefName, Steps};
 use git_pkt::{Hold, Packet, put, text};
 use git_repository::{Packs, TextFault, read_repo};
@@ -192,31 +192,13 @@ fn state_argument(
         Ok(argument) => argument,
         Err(kind) => return append_line(alloc, lines, kind.name(), LineContent::Nothing),
     };
+    let word = word_at(&argument).keyword().trim_ascii_end();
+    let word = String::from_utf8_lossy(alloc, word)?;
     match argument {
-        Argument::Flag(flag) => {
-            append(lines, flag.word())?;
-            append(lines, b"\n")
-        }
-        Argument::RefPrefix(prefix) => append_line(
-            alloc,
-            lines,
-            "prefix",
-            LineContent::Bytes(prefix),
-        ),
-        Argument::Want(id) => state_object(alloc, lines, "want", id),
-        Argument::Filter(spec) => append_line(alloc, lines, "filter", LineContent::Bytes(spec)),
-        Argument::Have(id) => state_object(alloc, lines, "have", id),
-        Argument::Shallow(id) => state_object(alloc, lines, "shallow", id),
-        Argument::Deepen(depth) => state_number(alloc, lines, "deepen", depth),
-        Argument::DeepenSince(time) => state_number(alloc, lines, "deepen-since", time),
-        Argument::DeepenNot(revision) => append_line(
-            alloc,
-            lines,
-            "deepen-not",
-            LineContent::Bytes(revision),
-        ),
-        Argument::WantRef(name) => append_line(alloc, lines, "want-ref", LineContent::Bytes(name)),
-        Argument::ObjectId(id) => state_object(alloc, lines, "oid", id),
+        Argument::Flag(_) => append_line(alloc, lines, word.as_str(), LineContent::Nothing),
+        Argument::Object(_, id) => state_object(alloc, lines, word.as_str(), id),
+        Argument::Text(_, text) => append_line(alloc, lines, word.as_str(), LineContent::Bytes(text)),
+        Argument::Number(_, number) => state_number(alloc, lines, word.as_str(), number),
     }
 }
 

@@ -46,7 +46,7 @@ impl Wording {
         let Ok(argument) = argument_of(self.command, offer, text) else {
             return Err(Trouble::BadCase("no argument"));
         };
-        match request.add(argument) {
+        match request.add(&argument) {
             Ok(()) => Ok(()),
             Err(_) => Err(Trouble::BadCase("an argument that is not added")),
         }

@@ -11,7 +11,7 @@ use Rattle.git_msg.specs.Advertisement.{noted_of, is_spoken}
 use Rattle.git_msg.specs.Capability.{IsCapability}
 use Rattle.git_msg.specs.References.{reference_of, reference_at, FitsIn}
 use Rattle.git_msg.specs.ResponseLines.{Wanted, wanted_of}
-use Rattle.git_msg.specs.Asked.{Asked, ls_refs, fetch, object_info}
+use Rattle.git_msg.specs.Asked.{Asked, ls_refs, fetch, object_info, done_in}
 use Rattle.git_msg.specs.Machine.HeldRequest.{asked_of}
 use Rattle.git_msg.specs.Machine.RequestWriter.{left_to_write}
 use Rattle.git_msg.specs.declared.requests.Request.{Request}
@@ -243,7 +243,7 @@ question_in (Some request) = Some (asked_of request)
 -- what is expected first of a response
 abbrev pub first_expected : Asked → Expected
 first_expected (ls_refs q) = References
-first_expected (fetch q) = Header (allowed_after q.done [])
+first_expected (fetch q) = Header (allowed_after (done_in q) [])
 first_expected (object_info q) = SizeLine
 
 -- the capability that a borrowed one shows

@@ -8,9 +8,9 @@ use Rattle.git_msg.specs.declared.offers.Offer.{Offer}
 use Rattle.git_msg.specs.declared.requests.Request.{Request}
 use Rattle.git_msg.specs.declared.requests.Request.TheVariants.{LsRefs as OfLsRefs, Fetch as OfFetch, ObjectInfo as OfObjectInfo}
 use Rattle.git_msg.specs.Arguments.{Arg, IsValue, IsValueFault, written_text, TakesMemory}
-use Rattle.git_msg.specs.Asked.{Asked, ls_refs, fetch, object_info, command_asked}
+use Rattle.git_msg.specs.Asked.{Asked, ls_refs, fetch, object_info, command_asked, nothing_asked, with_argument}
 use Rattle.git_msg.specs.Checks.{Check, check, Refuses, Passes}
-use Rattle.git_msg.specs.Kept.{Kept, kept_as, IsNew, KeepsArgument}
+use Rattle.git_msg.specs.Kept.{Adds, IsNew, Kept, kept_as}
 
 module _ {A : Type 0} where
   -- the request as it is kept
@@ -52,11 +52,11 @@ module _ {A : Type 0} where
 
   -- a request without arguments
   abbrev pub IsEmpty : Command → Format → ℕ → Request A → Type 0
-  IsEmpty command format limit q = IsNew command format limit (holding_of q)
+  IsEmpty command format limit q = IsNew (nothing_asked command) format limit (holding_of q)
 
   -- the new request is the old one with one more argument, whose text has so many bytes
   abbrev pub Keeps : Request A → Arg → ℕ → Request A → Type 0
-  Keeps old arg long new = KeepsArgument (holding_of old) arg long (holding_of new)
+  Keeps old arg long new = Adds with_argument (holding_of old) arg long (holding_of new)
 
   -- the new request is the old one with these arguments added, one after the other, each counted as it is written
   abbrev pub AddsAll : Request A → List Arg → Request A → Type 0

@@ -2,7 +2,6 @@
 use Rattle.std.specs.Prelude.{◌≡◌, ◌<◌, ℕ, Option, Some, None, List, [], ◌∷◌, ◌++◌, drop, length, map}
 use Rattle.git_pkt.specs.Packets.{Pkt, flush}
 use Rattle.git_pkt.specs.declared.reader.PacketReader.{PacketReader}
-use Rattle.git_msg.specs.Asked.{FetchAsked, LsRefsAsked, ObjectInfoAsked}
 use Rattle.git_msg.specs.declared.requests.Request.{Request}
 use Rattle.git_msg.specs.declared.requests.Request.TheVariants.{LsRefs as OfLsRefs, Fetch as OfFetch, ObjectInfo as OfObjectInfo}
 use Rattle.git_server.specs.Repository.{Repository, RepoState}
@@ -20,24 +19,26 @@ use Rattle.git_server.specs.declared.ls_refs.ReferencesPlace.{ReferencesPlace}
 use Rattle.git_server.specs.declared.ls_refs.ReferencesPlace.TheVariants.{First, Entry}
 use Rattle.git_server.specs.declared.object_info.SizesPlace.{SizesPlace}
 use Rattle.git_server.specs.declared.object_info.SizesPlace.TheVariants.{Header as SizesHeader, Object}
+use Rattle.git_msg.specs.Arguments.{Arg}
+use Rattle.git_msg.specs.Asked.{oids_in}
 
 -- the packets of an answer for references, from this place on
-abbrev pub references_from : LsRefsAsked → Repository → ReferencesPlace → List Pkt
+abbrev pub references_from : List Arg → Repository → ReferencesPlace → List Pkt
 references_from q repo First = ls_refs_answer q repo
 references_from q repo (Entry next) = reference_packets q (drop next repo.refs)
 
 -- the packets end an answer for references, which never breaks off, from this place on
-abbrev pub AreReferencesFrom : Manner → LsRefsAsked → Repository → ReferencesPlace → List Pkt → Type 0
+abbrev pub AreReferencesFrom : Manner → List Arg → Repository → ReferencesPlace → List Pkt → Type 0
 AreReferencesFrom whole q repo place later = later ≡ references_from q repo place
 AreReferencesFrom broken q repo place later = ⊥
 
 -- the packets of an answer about objects, from this place on
-abbrev pub sizes_from : ObjectInfoAsked → Repository → SizesPlace → List Pkt
+abbrev pub sizes_from : List Arg → Repository → SizesPlace → List Pkt
 sizes_from q repo SizesHeader = object_info_answer q repo
-sizes_from q repo (Object next) = map (info_packet repo) (drop next q.oids) ++ flush ∷ []
+sizes_from q repo (Object next) = map (info_packet repo) (drop next (oids_in q)) ++ flush ∷ []
 
 -- the packets end an answer about objects, which never breaks off, from this place on
-abbrev pub AreSizesFrom : Manner → ObjectInfoAsked → Repository → SizesPlace → List Pkt → Type 0
+abbrev pub AreSizesFrom : Manner → List Arg → Repository → SizesPlace → List Pkt → Type 0
 AreSizesFrom whole q repo place later = later ≡ sizes_from q repo place
 AreSizesFrom broken q repo place later = ⊥
 
@@ -73,19 +74,19 @@ module _ {A : Type 0} where
   most_from repo (Sizes request place) = length (sizes_from request.asked repo place)
 
 -- the packets from a place on, or none if the answer ended
-abbrev pub references_after : LsRefsAsked → Repository → Option ReferencesPlace → List Pkt
+abbrev pub references_after : List Arg → Repository → Option ReferencesPlace → List Pkt
 references_after q repo (Some place) = references_from q repo place
 references_after q repo None = []
 
 -- the first of the remaining packets was written, and this place is the next
-pub record AnswersOne (asked : LsRefsAsked) (repo : Repository) (place : ReferencesPlace) (old : PacketReader) (after : Option ReferencesPlace)
+pub record AnswersOne (asked : List Arg) (repo : Repository) (place : ReferencesPlace) (old : PacketReader) (after : Option ReferencesPlace)
     (new : PacketReader) : Type 0 where
   pub packet : Pkt
   pub unsent : references_from asked repo place ≡ packet ∷ references_after asked repo after
   pub writes : Writes old packet new
 
 -- the packets from a place on, or none if the answer ended
-abbrev pub sizes_after : ObjectInfoAsked → Repository → Option SizesPlace → List Pkt
+abbrev pub sizes_after : List Arg → Repository → Option SizesPlace → List Pkt
 sizes_after q repo (Some next) = sizes_from q repo next
 sizes_after q repo None = []
 
@@ -119,7 +120,7 @@ abbrev pub WritesPack : List ℕ → RepoState → PackPlace → PacketReader �
 WritesPack pack = WritesNext (λ manner place later. IsPackfileFrom manner pack place later) (most_packets pack)
 
 -- the next packet of the answer to this fetch was written
-abbrev pub WritesFetch : FetchAsked → RepoState → FetchPlace → PacketReader → Answered → RepoState → FetchPlace → PacketReader → Type 0
+abbrev pub WritesFetch : List Arg → RepoState → FetchPlace → PacketReader → Answered → RepoState → FetchPlace → PacketReader → Type 0
 WritesFetch q repo_old old reader_old answered repo_new new reader_new =
     WritesNext (λ manner place later. IsFetchFrom manner repo_old.answers q place later) (most_fetch repo_old.answers q)
     repo_old old reader_old answered repo_new new reader_new

@@ -5,7 +5,7 @@ use Rattle.git_names.specs.ObjectName.{ObjectName}
 use Rattle.git_pkt.specs.Packets.{Pkt, flush, delim}
 use Rattle.git_pkt.specs.declared.reader.PacketReader.{PacketReader}
 use Rattle.git_msg.specs.declared.Boundary.{Boundary}
-use Rattle.git_msg.specs.Asked.{FetchAsked}
+use Rattle.git_msg.specs.Asked.{haves_in, want_refs_in}
 use Rattle.git_msg.specs.WrittenRequest.{text_line}
 use Rattle.git_server.specs.Repository.{Repository}
 use Rattle.git_server.specs.Packs.{Manner, EndsPack, IsPackfile}
@@ -24,6 +24,7 @@ use Rattle.git_server.specs.declared.fetching.FetchPlace.{FetchPlace}
 use Rattle.git_server.specs.declared.fetching.FetchPlace.TheVariants.{Acknowledgments, Delimiter, ShallowInfo, WantedRefs, Packfile}
 use Rattle.git_server.specs.FetchAnswers.{EndsWithBoundary, EndsWithRefs, IsAfter, IsNegotiated, ack_packet, acknowledgments, boundary_packet}
 use Rattle.git_server.specs.FetchAnswers.{common, is_ready_for, nak_or_acks, negotiates, shallow_info, wanted_packet, wanted_refs}
+use Rattle.git_msg.specs.Arguments.{Arg}
 
 -- Acknowledgments.
 
@@ -33,20 +34,20 @@ acks_by true ids = map ack_packet ids
 acks_by false ids = nak_or_acks ids
 
 -- the section of acknowledgments from a place on, without its end
-abbrev pub acknowledgments_from : Repository → FetchAsked → AcknowledgmentsPlace → List Pkt
+abbrev pub acknowledgments_from : Repository → List Arg → AcknowledgmentsPlace → List Pkt
 acknowledgments_from repo q AcknowledgmentsHeader = acknowledgments repo q
-acknowledgments_from repo q (Have next announced) = acks_by announced (common repo.has (drop next q.haves))
+acknowledgments_from repo q (Have next announced) = acks_by announced (common repo.has (drop next (haves_in q)))
 acknowledgments_from repo q Through = []
 
 -- the packet is the next one of the section, or its end: the result shows whether the pack follows
-abbrev pub IsNextAcknowledgment : Repository → FetchAsked → AcknowledgmentsPlace → Acknowledged → Pkt → Type 0
+abbrev pub IsNextAcknowledgment : Repository → List Arg → AcknowledgmentsPlace → Acknowledged → Pkt → Type 0
 IsNextAcknowledgment repo q place (Part next) packet = acknowledgments_from repo q place ≡ packet ∷ acknowledgments_from repo q next
 IsNextAcknowledgment repo q place Ready packet =
     (acknowledgments_from repo q place ≡ []) × (is_ready_for repo q ≡ true) × (packet ≡ text_line (codes "ready"))
 IsNextAcknowledgment repo q place Whole packet = (acknowledgments_from repo q place ≡ []) × (is_ready_for repo q ≡ false) × (packet ≡ flush)
 
 -- the next packet of the section was written
-pub record Acknowledges (repo : Repository) (q : FetchAsked) (place : AcknowledgmentsPlace) (old : PacketReader) (came : Acknowledged) (new : PacketReader)
+pub record Acknowledges (repo : Repository) (q : List Arg) (place : AcknowledgmentsPlace) (old : PacketReader) (came : Acknowledged) (new : PacketReader)
     : Type 0 where
   pub packet : Pkt
   pub is_next : IsNextAcknowledgment repo q place came packet
@@ -98,25 +99,25 @@ abbrev pub place_by : Bool → FetchPlace
 place_by true = Acknowledgments AcknowledgmentsHeader
 place_by false = ShallowInfo Header
 
-abbrev pub first_place : FetchAsked → FetchPlace
+abbrev pub first_place : List Arg → FetchPlace
 first_place q = place_by (negotiates q)
 
 -- the packets end the answer, from this place on
-abbrev pub IsFetchFrom : Manner → Repository → FetchAsked → FetchPlace → List Pkt → Type 0
+abbrev pub IsFetchFrom : Manner → Repository → List Arg → FetchPlace → List Pkt → Type 0
 IsFetchFrom manner repo q (Acknowledgments place) later = IsNegotiated (is_ready_for repo q) (acknowledgments_from repo q place) manner repo q later
 IsFetchFrom manner repo q Delimiter later = IsAfter (delim ∷ []) (EndsWithBoundary manner repo q) later
 IsFetchFrom manner repo q (ShallowInfo place) later = IsAfter (boundary_from (repo.boundaries q) place) (EndsWithRefs manner repo q) later
-IsFetchFrom manner repo q (WantedRefs place) later = IsAfter (wanted_from repo q.want_refs place) (IsPackfile manner (repo.pack q)) later
+IsFetchFrom manner repo q (WantedRefs place) later = IsAfter (wanted_from repo (want_refs_in q) place) (IsPackfile manner (repo.pack q)) later
 IsFetchFrom manner repo q (Packfile place) later = IsPackfileFrom manner (repo.pack q) place later
 
 -- the maximum number of packets that end it
-abbrev pub most_from_refs : Repository → FetchAsked → SectionPlace → ℕ
-most_from_refs repo q place = length (wanted_from repo q.want_refs place) + most_packets (repo.pack q) PackHeader
+abbrev pub most_from_refs : Repository → List Arg → SectionPlace → ℕ
+most_from_refs repo q place = length (wanted_from repo (want_refs_in q) place) + most_packets (repo.pack q) PackHeader
 
-abbrev pub most_from_boundary : Repository → FetchAsked → SectionPlace → ℕ
+abbrev pub most_from_boundary : Repository → List Arg → SectionPlace → ℕ
 most_from_boundary repo q place = length (boundary_from (repo.boundaries q) place) + most_from_refs repo q Header
 
-abbrev pub most_fetch : Repository → FetchAsked → FetchPlace → ℕ
+abbrev pub most_fetch : Repository → List Arg → FetchPlace → ℕ
 most_fetch repo q (Acknowledgments place) = length (acknowledgments_from repo q place) + 2 + most_from_boundary repo q Header
 most_fetch repo q Delimiter = 1 + most_from_boundary repo q Header
 most_fetch repo q (ShallowInfo place) = most_from_boundary repo q place

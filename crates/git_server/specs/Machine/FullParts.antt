@@ -3,7 +3,6 @@ use Rattle.std.specs.Prelude.{◌≡◌, ◌≤◌, ◌⊎◌, ℕ, List, length
 use Rattle.git_pkt.specs.Packets.{Pkt, body_of, flush, longest_payload}
 use Rattle.git_pkt.specs.Bands.{band_packet}
 use Rattle.git_pkt.specs.declared.band.Band.TheVariants.{Pack as PackBand}
-use Rattle.git_msg.specs.Asked.{FetchAsked}
 use Rattle.git_server.specs.Packs.{pack_source_packet}
 use Rattle.git_server.specs.declared.packfile.PackPlace.{PackPlace}
 use Rattle.git_server.specs.declared.packfile.PackPlace.TheVariants.{Header, Pack}
@@ -13,6 +12,7 @@ use Rattle.git_server.specs.declared.answer.Answer.{Answer}
 use Rattle.git_server.specs.declared.answer.Answer.TheVariants.{References, Fetching, Sizes}
 use Rattle.git_server.specs.declared.server.Phase.{Phase}
 use Rattle.git_server.specs.declared.server.Phase.TheVariants.{Advertising, Between, Within, Answering, Refusing, Ended}
+use Rattle.git_msg.specs.Arguments.{Arg}
 
 -- the packet has as many bytes of the pack as a read for a whole packet may return, or it ends the section
 abbrev pub IsFullPart : (ℕ → ℕ → Type 0) → Pkt → Type 0
@@ -39,12 +39,12 @@ FillsFetch gives (WantedRefs place) Is = Unit {0}
 FillsFetch gives (Packfile place) Is = FillsPart gives place Is
 
 module _ {A : Type 0} where
-  abbrev pub FillsAnswer : (FetchAsked → ℕ → ℕ → ℕ → Type 0) → Answer A → (Pkt → Type 0) → Type 0
+  abbrev pub FillsAnswer : (List Arg → ℕ → ℕ → ℕ → Type 0) → Answer A → (Pkt → Type 0) → Type 0
   FillsAnswer gives (References request next) Is = Unit {0}
   FillsAnswer gives (Fetching request place) Is = FillsFetch (gives request.asked) place Is
   FillsAnswer gives (Sizes request place) Is = Unit {0}
 
-  abbrev pub FillsPhase : (FetchAsked → ℕ → ℕ → ℕ → Type 0) → Phase A → (Pkt → Type 0) → Type 0
+  abbrev pub FillsPhase : (List Arg → ℕ → ℕ → ℕ → Type 0) → Phase A → (Pkt → Type 0) → Type 0
   FillsPhase gives (Advertising line) Is = Unit {0}
   FillsPhase gives Between Is = Unit {0}
   FillsPhase gives Within Is = Unit {0}

@@ -1,6 +1,5 @@
 -- Packs that are not known yet, and answers without any of their bytes.
 use Rattle.std.specs.Prelude.{◌≡◌, ℕ, Bool, false, List}
-use Rattle.git_msg.specs.Asked.{FetchAsked}
 use Rattle.git_msg.specs.declared.offers.Offer.{Offer}
 use Rattle.git_server.specs.Repository.{Repository, RepoState}
 use Rattle.git_server.specs.FetchAnswers.{is_ready_for}
@@ -11,17 +10,18 @@ use Rattle.git_server.specs.declared.fetching.FetchPlace.{FetchPlace}
 use Rattle.git_server.specs.declared.fetching.FetchPlace.TheVariants.{Acknowledgments, Delimiter, ShallowInfo, WantedRefs, Packfile}
 use Rattle.git_server.specs.declared.server.Phase.{Phase}
 use Rattle.git_server.specs.declared.server.Phase.TheVariants.{Advertising, Between, Within, Answering, Refusing, Ended}
+use Rattle.git_msg.specs.Arguments.{Arg}
 
 -- the repository with these packs
-abbrev pub with_packs : (FetchAsked → List ℕ) → Repository → Repository
+abbrev pub with_packs : (List Arg → List ℕ) → Repository → Repository
 with_packs packs repo = record repo { pack = packs }
 
 -- the setting with these packs
-abbrev pub setting_with : (FetchAsked → List ℕ) → Setting → Setting
+abbrev pub setting_with : (List Arg → List ℕ) → Setting → Setting
 setting_with packs s = record s { repo = with_packs packs s.repo }
 
 -- the repository's answers, with these packs
-abbrev pub state_with : {R : Type 0} → (FetchAsked → List ℕ) → (R → RepoState) → R → RepoState
+abbrev pub state_with : {R : Type 0} → (List Arg → List ℕ) → (R → RepoState) → R → RepoState
 state_with packs state repo = record { answers = with_packs packs (state repo).answers; failures = (state repo).failures }
 
 -- the setting of a session that begins with this repository
@@ -35,7 +35,7 @@ first_setting state repo offer limit advertise = record {
 }
 
 -- from this place on the answer to the fetch has no byte of a pack: it is of acknowledgments alone, since the repository is not ready
-abbrev pub HasNoPackFrom : Repository → FetchAsked → FetchPlace → Type 0
+abbrev pub HasNoPackFrom : Repository → List Arg → FetchPlace → Type 0
 HasNoPackFrom repo q (Acknowledgments place) = is_ready_for repo q ≡ false
 HasNoPackFrom repo q Delimiter = ⊥
 HasNoPackFrom repo q (ShallowInfo place) = ⊥

@@ -3,12 +3,13 @@ use Rattle.std.specs.Prelude.{◌≡◌, ◌<◌, ℕ, Bool, true, false, List, 
 use Rattle.std.proofs.Common.{refl}
 use Rattle.std.specs.Option.{ForSome}
 use Rattle.git_server.specs.declared.list_repo.ListRepo.{ListRepo}
-use Rattle.git_msg.specs.Asked.{FetchAsked, is_empty}
+use Rattle.git_msg.specs.Asked.{is_empty, filters_in, haves_in}
 use Rattle.git_server.specs.BoundaryLaws.{announced_keep, announced_unshallow}
 use Rattle.git_server.specs.Repository.{IsSound, RepoState, Repository}
 use Rattle.git_server.specs.Lists.{Lists, lists_in, pack_for}
 use Rattle.git_server.specs.Objects.{has_object, object_of, size_among}
 use Rattle.git_server.specs.AnnouncedBoundary.{boundary_for, is_enough}
+use Rattle.git_msg.specs.Arguments.{Arg}
 
 -- the lists that it consists of
 abbrev pub lists_of : ListRepo → Lists
@@ -22,7 +23,7 @@ answers_from lists = record {
   unborn_head = lists.unborn_head;
   has = has_object lists.objects;
   object_size = size_among lists.objects;
-  is_ready = λ request. is_enough lists.ready_after (length (filter (has_object lists.objects) request.haves));
+  is_ready = λ request. is_enough lists.ready_after (length (filter (has_object lists.objects) (haves_in request)));
   boundaries = boundary_for lists.boundaries;
   pack = pack_for lists;
 }
@@ -52,5 +53,5 @@ short_pack false pack None short others = short
 short_pack false pack (Some other) short others = others other refl
 
 -- each of its packs is short enough
-pub is_short : (repo : ListRepo) (request : FetchAsked) → length ((state_of repo).answers.pack request) < 9223372036854775808
-is_short repo request = short_pack (is_empty request.filters) (lists_of repo).pack (lists_of repo).filtered repo.short repo.short_filtered
+pub is_short : (repo : ListRepo) (request : List Arg) → length ((state_of repo).answers.pack request) < 9223372036854775808
+is_short repo request = short_pack (is_empty (filters_in request)) (lists_of repo).pack (lists_of repo).filtered repo.short repo.short_filtered

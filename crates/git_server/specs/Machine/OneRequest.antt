@@ -6,7 +6,7 @@ use Rattle.git_loop.specs.Moves.{Move, given_to, given_to-append}
 use Rattle.git_loop.specs.Streams.{InputState}
 use Rattle.git_pkt.specs.Machine.Recorded.{reads_of, has_ended}
 use Rattle.git_pkt.specs.declared.recorded.Recorded.{Recorded}
-use Rattle.git_msg.specs.Asked.{FetchAsked}
+use Rattle.git_msg.specs.Arguments.{Arg}
 use Rattle.git_server.specs.Repository.{RepoState}
 use Rattle.git_server.specs.Sessions.{Setting}
 use Rattle.git_server.specs.Machine.LatePacks.{state_with}
@@ -33,7 +33,7 @@ pub record IsAllRead {R : Type 0} (count : ℕ) (reader : Recorded R) : Type 0 w
 -- these moves led the server from the one state to the other, whatever its packs are, and nothing was sent
 pub record TakesBy {R A : Type 0} (state : R → RepoState) (old : Server R A) (trace : List Move) (new : Server R A) : Type 0 where
   pub reaches : ServerReaches state old trace new
-  pub unread : (packs : FetchAsked → List ℕ) → ServerReaches (state_with packs state) old trace new
+  pub unread : (packs : List Arg → List ℕ) → ServerReaches (state_with packs state) old trace new
   pub quiet : given_to 0 trace ≡ []
 
 module _ {R A : Type 0} (state : R → RepoState) where

@@ -5,7 +5,6 @@ use Rattle.git_pkt.specs.Machine.Credit.{credit_of}
 use Rattle.git_pkt.specs.Packets.{Pkt, body_of, longest_payload, spelling_of}
 use Rattle.git_pkt.specs.Splits.{Given}
 use Rattle.git_pkt.specs.Machine.PacketReader.{ReadsOn, held_of}
-use Rattle.git_msg.specs.Asked.{FetchAsked}
 use Rattle.git_msg.specs.Memory.{FaultNeedsRefusal}
 use Rattle.git_server.specs.Machine.FullParts.{FillsPhase}
 use Rattle.git_server.specs.Machine.LatePacks.{HasNoPackUnsentIn, setting_with, state_with}
@@ -20,6 +19,7 @@ use Rattle.git_server.specs.declared.outcome.Outcome.TheVariants.{Closed, Refuse
 use Rattle.git_server.specs.declared.server.Server.{Server}
 use Rattle.git_server.specs.declared.server.Pulled.{Pulled}
 use Rattle.git_server.specs.declared.server.Pulled.TheVariants.{Packet, NeedInput, Finished}
+use Rattle.git_msg.specs.Arguments.{Arg}
 
 -- the outcome of a server whose input ended: it was closed between two requests, or cut short inside one
 abbrev pub IsClosing : Option Outcome → Type 0
@@ -60,11 +60,11 @@ module _ {R A : Type 0} where
 
   -- the same, whatever the packs are
   abbrev pub GoesUnread : (R → RepoState) → List ℕ → List ℕ → Server R A → Server R A → Type 0
-  GoesUnread state used given old new = (packs : FetchAsked → List ℕ) → Goes (state_with packs state) used given old new
+  GoesUnread state used given old new = (packs : List Arg → List ℕ) → Goes (state_with packs state) used given old new
 
   -- the server has used and sent these bytes, whatever the packs are
   abbrev pub RunsUnread : (R → RepoState) → Setting → List ℕ → Bool → List ℕ → Server R A → Type 0
-  RunsUnread state s used over given server = (packs : FetchAsked → List ℕ) → Running (state_with packs state) (setting_with packs s) used over given server
+  RunsUnread state s used over given server = (packs : List Arg → List ℕ) → Running (state_with packs state) (setting_with packs s) used over given server
 
   -- no byte of a pack has to be sent
   abbrev pub HasNoPackUnsent : (R → RepoState) → Server R A → Type 0
@@ -83,7 +83,7 @@ module _ {R A : Type 0} where
 
   -- the same, whatever the packs are
   abbrev pub ClosesUnread : (R → RepoState) → Server R A → Server R A → Type 0
-  ClosesUnread state old new = (packs : FetchAsked → List ℕ) → Closes (state_with packs state) old new
+  ClosesUnread state old new = (packs : List Arg → List ℕ) → Closes (state_with packs state) old new
 
   -- the stream is too long only if there was one byte more than was used
   abbrev pub StopsInTime : (R → RepoState) → Server R A → ℕ → List ℕ → Option Outcome → Type 0
@@ -100,7 +100,7 @@ module _ {R A : Type 0} where
   most_left state server = most_unsent server.offer (state server.repo).answers server.phase
 
   -- the packet that waits: if it is one of a pack, it has all that the repository returns for a packet
-  abbrev pub FillsUnsent : (R → FetchAsked → ℕ → ℕ → ℕ → Type 0) → Server R A → (Pkt → Type 0) → Type 0
+  abbrev pub FillsUnsent : (R → List Arg → ℕ → ℕ → ℕ → Type 0) → Server R A → (Pkt → Type 0) → Type 0
   FillsUnsent gives server Is = FillsPhase (gives server.repo) server.phase Is
 
   -- the packet comes before whatever waits now

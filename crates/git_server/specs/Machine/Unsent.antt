@@ -1,6 +1,5 @@
 -- Writing the packets that a server has to send, without new input or after some.
 use Rattle.std.specs.Prelude.{◌≡◌, ℕ, Bool, true, false, List, [], ◌++◌, length, Option, Some, None}
-use Rattle.git_msg.specs.Asked.{FetchAsked}
 use Rattle.git_pkt.specs.Streams.{Flow, WrittenAs}
 use Rattle.git_server.specs.Repository.{RepoState}
 use Rattle.git_server.specs.Machine.LatePacks.{state_with}
@@ -8,6 +7,7 @@ use Rattle.git_server.specs.Machine.Server.{outcome_of, wants_input}
 use Rattle.git_server.specs.Machine.ServerCalls.{EndsAs, Goes, HasNoPackUnsent, AreUnsentNow, StopsInTime}
 use Rattle.git_server.specs.declared.outcome.Outcome.{Outcome}
 use Rattle.git_server.specs.declared.server.Server.{Server}
+use Rattle.git_msg.specs.Arguments.{Arg}
 
 -- the bytes were used, and the packets for them were written; a prefix of these if a write failed
 pub record WritesOn {R A : Type 0} (broken : Bool) (state : R → RepoState) (old new : Server R A) (bytes : List ℕ) (writer : Flow) : Type 0 where
@@ -17,7 +17,7 @@ pub record WritesOn {R A : Type 0} (broken : Bool) (state : R → RepoState) (ol
 
 -- nothing was used; the packets were written, or a prefix of them if a write failed, whatever the packs are; no byte of a pack is left to send
 pub record WritesUnread {R A : Type 0} (broken : Bool) (state : R → RepoState) (old new : Server R A) (writer : Flow) : Type 0 where
-  pub writes : (packs : FetchAsked → List ℕ) → WritesOn broken (state_with packs state) old new [] writer
+  pub writes : (packs : List Arg → List ℕ) → WritesOn broken (state_with packs state) old new [] writer
   pub has_unsent : HasNoPackUnsent state new
 
 -- a prefix of the bytes was used, and the packets for it were written; a prefix of these if a write failed

@@ -5,13 +5,14 @@ use Rattle.git_msg.specs.Machine.TextPools.{IsEnd, text_at}
 use Rattle.git_msg.proofs.PrefixOrder.{same, ordered, alike_moved, alike_pruned, prunes_texts}
 use Rattle.git_msg.proofs.parts.order.Goals as goal
 
-pub returns-clause-ordered : goal.returns-clause-ordered
-returns-clause-ordered g c = rw c.prune.ensures.kept (ordered (text_at c.args.bytes.now) _ 0 c.sort.ensures.sorted)
-
-pub returns-clause-alike : goal.returns-clause-alike
-returns-clause-alike g c name =
+pub returns-clause-order : goal.returns-clause-order
+returns-clause-order g c =
     rw c.prune.ensures.kept
-    (alike_moved (text_at c.args.bytes.now) _ _ c.sort.ensures.permutation name ∙ alike_pruned (text_at c.args.bytes.now) _ name)
+    (record {
+      ordered = ordered (text_at c.args.bytes.now) _ 0 c.sort.ensures.sorted;
+      alike = λ name. alike_moved (text_at c.args.bytes.now) _ _ c.sort.ensures.permutation name ∙ alike_pruned (text_at c.args.bytes.now) _ name;
+      prunes = prunes_texts (text_at c.args.bytes.now) _ _ c.sort.ensures.permutation;
+    })
 
 pub returns-clause-fewer : goal.returns-clause-fewer
 returns-clause-fewer g c = search (rules, length_permutation)
@@ -20,6 +21,3 @@ pub returns-clause-sound : goal.returns-clause-sound
 returns-clause-sound g c sound =
     rw c.prune.ensures.kept
     (All-dedup (same (text_at c.args.bytes.now)) (IsEnd c.args.bytes.now) _ (All-permutation (IsEnd c.args.bytes.now) _ _ c.sort.ensures.permutation sound))
-
-pub returns-clause-prunes : goal.returns-clause-prunes
-returns-clause-prunes g c = rw c.prune.ensures.kept (prunes_texts (text_at c.args.bytes.now) _ _ c.sort.ensures.permutation)

@@ -1,7 +1,8 @@
 use Rattle.std.proofs.Common.{◌≡◌, [], ◌∷◌, codes, refl, arith, inl, inr}
 use Rattle.git_pkt.specs.Packets.{delim}
 use Rattle.git_pkt.specs.declared.fault.Kind.TheVariants.{TooMuchKept}
-use Rattle.git_msg.specs.Arguments.{ReadsAs, alone, of_flag, ref_prefix, with_text}
+use Rattle.git_msg.specs.Arguments.{ReadsAs, alone, with_text}
+use Rattle.git_msg.specs.declared.words.TextWord.{TextWord}
 use Rattle.git_msg.specs.Lines.{argument, command, delimiter}
 use Rattle.git_msg.specs.Requests.{FirstFault}
 use Rattle.git_msg.specs.WrittenRequest.{text_line}
@@ -13,8 +14,8 @@ use Rattle.git_rows.proofs.RequestLines.{ls_refs_command}
 use Rattle.git_rows.proofs.TextsByComputing.{no_error_by}
 use Rattle.git_rows.proofs.requests.argument_past_the_limit.Goals as goal
 
-symrefs_reads : ReadsAs LsRefs offer_all (codes "symrefs") (alone (of_flag Flag.Symrefs))
-symrefs_reads = record { is_argument = (refl, refl); offered = refl }
+symrefs_reads : ReadsAs LsRefs offer_all (codes "symrefs") (alone Flag.Symrefs)
+symrefs_reads = record { is_argument = (refl, record { value = []; spelled = refl; states = tt }); offered = refl }
 
 refused : FirstFault offer_all 26 three_argument_packets TooMuchKept 60
 refused = record {
@@ -24,7 +25,7 @@ refused = record {
   at = at 60 (text_line (codes "symrefs"));
   back = [];
   items =
-      command LsRefs ∷ delimiter ∷ argument (alone (of_flag Flag.Peel)) 4 ∷ argument (with_text ref_prefix (codes "refs/heads/")) 22 ∷ [];
+      command LsRefs ∷ delimiter ∷ argument (alone Flag.Peel) 4 ∷ argument (with_text TextWord.RefPrefix (codes "refs/heads/")) 22 ∷ [];
   whole = refl;
   taken = (
     ls_refs_command 26,
@@ -36,7 +37,7 @@ refused = record {
             no_error = no_error_by (codes "peel") refl;
             of = LsRefs;
             asked = refl;
-            reads = record { is_argument = (refl, refl); offered = refl };
+            reads = record { is_argument = (refl, record { value = []; spelled = refl; states = tt }); offered = refl };
           };
           long_is = refl;
           fits = omega arith;
@@ -47,7 +48,7 @@ refused = record {
               no_error = no_error_by (codes "ref-prefix refs/heads/") refl;
               of = LsRefs;
               asked = refl;
-              reads = record { is_argument = (refl, (refl, omega arith)); offered = refl };
+              reads = record { is_argument = (refl, record { value = _; spelled = refl; states = (refl, (omega arith, omega arith)) }); offered = refl };
             };
             long_is = refl;
             fits = omega arith;
@@ -61,7 +62,7 @@ refused = record {
     fault = record {
       of = LsRefs;
       asked = refl;
-      refuses = inr (no_error_by (codes "symrefs") refl, inr ((alone (of_flag Flag.Symrefs), symrefs_reads), inl (omega arith, refl)));
+      refuses = inr (no_error_by (codes "symrefs") refl, inr ((alone Flag.Symrefs, symrefs_reads), inl (omega arith, refl)));
     };
     offset_is = refl;
   };

@@ -1,8 +1,8 @@
 use Rattle.std.proofs.Common.{◌≡◌, [], ◌∷◌, true, false, codes, refl, ap, arith, inl, inr}
 use Rattle.git_pkt.specs.Packets.{flush}
 use Rattle.git_pkt.specs.declared.fault.Kind.TheVariants.{TooMuchKept}
-use Rattle.git_msg.specs.Arguments.{alone, of_flag}
-use Rattle.git_msg.specs.Asked.{done_of}
+use Rattle.git_msg.specs.Arguments.{alone}
+use Rattle.git_msg.specs.Asked.{has_flag}
 use Rattle.git_msg.specs.Requests.{FirstFault}
 use Rattle.git_msg.specs.WrittenRequest.{text_line}
 use Rattle.git_msg.specs.declared.arguments.Command.TheVariants.{Fetch}
@@ -27,7 +27,7 @@ past_the_limit = record {
     fault = record {
       of = Fetch;
       asked = refl;
-      refuses = inr (no_error_by (codes "done") refl, inr ((alone (of_flag Flag.Done), done_reads), inl (omega arith, refl)));
+      refuses = inr (no_error_by (codes "done") refl, inr ((alone Flag.Done, done_reads), inl (omega arith, refl)));
     };
     offset_is = refl;
   };
@@ -39,7 +39,7 @@ returns-clause-asks c = asks_fetch 49 (omega arith)
 pub returns-clause-not_with_haves_to_come : goal.returns-clause-not_with_haves_to_come
 returns-clause-not_with_haves_to_come c = λ h.
     let same = one_request offer_all 49 fetch_done_packets _ _ _ _ h (asks_fetch 49 (omega arith)) in
-    let is_done : false ≡ true = ap done_of same.0 in
+    let is_done : false ≡ true = ap (has_flag Flag.Done) same.0 in
     cc
 
 pub returns-clause-not_past_the_limit : goal.returns-clause-not_past_the_limit

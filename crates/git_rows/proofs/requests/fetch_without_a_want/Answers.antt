@@ -1,7 +1,7 @@
 use Rattle.std.proofs.Common.{[], ◌∷◌, codes, refl, arith, inl, inr, true}
 use Rattle.git_pkt.specs.Packets.{delim, flush}
 use Rattle.git_pkt.specs.declared.fault.Kind.TheVariants.{NoWants}
-use Rattle.git_msg.specs.Arguments.{alone, of_flag}
+use Rattle.git_msg.specs.Arguments.{alone}
 use Rattle.git_msg.specs.Asked.{HasWants}
 use Rattle.git_msg.specs.Lines.{argument, command, delimiter}
 use Rattle.git_msg.specs.WrittenRequest.{text_line}
@@ -22,7 +22,7 @@ returns-clause-refused c = record {
   front = at 0 (text_line (codes "command=fetch")) ∷ at 18 delim ∷ at 22 (text_line (codes "done")) ∷ [];
   at = at 31 flush;
   back = [];
-  items = command Fetch ∷ delimiter ∷ argument (alone (of_flag Flag.Done)) 4 ∷ [];
+  items = command Fetch ∷ delimiter ∷ argument (alone Flag.Done) 4 ∷ [];
   whole = refl;
   taken = (
     fetch_command 49,

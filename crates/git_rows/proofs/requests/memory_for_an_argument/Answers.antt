@@ -1,7 +1,8 @@
 use Rattle.std.proofs.Common.{◌≡◌, [], ◌∷◌, ◌++◌, codes, refl, ap, arith, sym, ◌∙◌}
 use Rattle.git_pkt.specs.Packets.{delim, flush}
 use Rattle.git_pkt.specs.Splits.{Given}
-use Rattle.git_msg.specs.Arguments.{want, with_id}
+use Rattle.git_msg.specs.Arguments.{with_id}
+use Rattle.git_msg.specs.declared.words.ObjectWord.{ObjectWord}
 use Rattle.git_msg.specs.WrittenRequest.{text_line}
 use Rattle.git_msg.proofs.WholeRequests.{flush_is_no_line, last_same}
 use Rattle.git_rows.specs.Worked.{all_a, at, name_a, offer_all}
@@ -13,7 +14,7 @@ returns-clause-at_a_want c = record {
   front = at 0 (text_line (codes "command=fetch")) ∷ at 18 delim ∷ [];
   last = at 22 (text_line (codes "want " ++ all_a));
   lines = fetch_begun;
-  arg = with_id want name_a;
+  arg = with_id ObjectWord.Want name_a;
   long = 45;
   whole = refl;
   taken = (fetch_command 49, ((refl, (tt, tt)), tt));

@@ -31,7 +31,7 @@ own_values : {A : Type 0} (request : Request A) → asked_of request ≡ ls_refs
     → All (λ (r : Request A). HasValues (format_of r) (asked_of r)) (request ∷ [])
 own_values {A} request asked =
     All-cons (λ (r : Request A). HasValues (format_of r) (asked_of r)) request []
-    (subst (λ (q : Asked). HasValues (format_of request) q) (sym asked) (All-nil _)) (All-nil _)
+    (subst (λ (q : Asked). HasValues (format_of request) q) (sym asked) (record { allowed = All-nil _; in_order = refl })) (All-nil _)
 
 pub returns-clause-nothing_asked : goal.returns-clause-nothing_asked
 unfolding escape_of lower_digit

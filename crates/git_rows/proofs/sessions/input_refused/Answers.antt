@@ -6,7 +6,8 @@ use Rattle.git_pkt.specs.Packets.{delim}
 use Rattle.git_pkt.specs.declared.fault.Kind.TheVariants.{BadDigit, Truncated, UnknownCommand}
 use Rattle.git_pkt.proofs.Spelling.{none_begins_nothing, none_begins_short}
 use Rattle.git_msg.specs.Admission.{IsAdmitted}
-use Rattle.git_msg.specs.Arguments.{want, with_id}
+use Rattle.git_msg.specs.Arguments.{with_id}
+use Rattle.git_msg.specs.declared.words.ObjectWord.{ObjectWord}
 use Rattle.git_msg.specs.Lines.{command}
 use Rattle.git_msg.specs.WrittenRequest.{text_line}
 use Rattle.git_msg.specs.declared.arguments.Command.TheVariants.{Fetch, LsRefs}
@@ -148,14 +149,14 @@ returns-clause-not_ours c = record {
       taken = (fetch_command 49, ((refl, (tt, tt)), tt));
       is_barred = record {
         bytes = codes "want " ++ all_b ++ codes "\n";
-        arg = with_id want name_b;
+        arg = with_id ObjectWord.Want name_b;
         behind = refl;
         data_packet = refl;
         is_text = record {
           no_error = no_error_by (codes "want " ++ all_b) refl;
           of = Fetch;
           asked = refl;
-          reads = record { is_argument = (refl, record { value = all_b; spelled = refl; holds = all_b_is_name }); offered = refl };
+          reads = record { is_argument = (refl, record { value = all_b; spelled = refl; states = all_b_is_name }); offered = refl };
         };
         refuses = refl;
       };

@@ -1,35 +1,21 @@
 use Rattle.std.proofs.Common.{◌≡◌, Some, [], ◌∷◌, codes, refl, arith, inl, subst, sym}
 use Rattle.git_pkt.specs.declared.fault.Kind.TheVariants.{UnknownArgument}
-use Rattle.git_msg.specs.Arguments.{IsArgumentFault, ReadsAs, keywords_of}
-use Rattle.git_msg.specs.Flags.{IsNoFlagOf}
-use Rattle.git_msg.specs.declared.flags.Flag.{Flag}
+use Rattle.git_msg.specs.Arguments.{IsArgumentFault, ReadsAs}
 use Rattle.git_msg.specs.declared.arguments.Command.{Command}
 use Rattle.git_msg.specs.declared.arguments.Command.TheVariants.{Fetch}
+use Rattle.git_msg.proofs.HeadWords.{none_named}
 use Rattle.git_msg.proofs.Rows.{argument_or_fault}
 use Rattle.git2show_lib.specs.Scripts.{HasBadScriptLine, MayFollow, ScriptLine, argument, blank, command}
 use Rattle.git2show_lib.proofs.ScriptLaws.{one_bad_line, script_or_bad}
 use Rattle.git_repository.specs.RepositoryLines.{lines_of}
 use Rattle.git_rows.specs.Worked.{offer_all}
 use Rattle.git_rows.proofs.Scripts.{script}
-use Rattle.git_rows.proofs.TextsByComputing.{differ, begins_with_none_by}
+use Rattle.git_rows.proofs.TextsByComputing.{differ}
 use Rattle.git_rows.proofs.texts.script_lines_refused.Goals as goal
 
--- the text is that of no other flag, and this one belongs to another command
-no_fetch_flag : IsNoFlagOf Fetch (codes "symrefs")
-no_fetch_flag Flag.ThinPack of = differ (codes "symrefs") (codes "thin-pack") refl
-no_fetch_flag Flag.NoProgress of = differ (codes "symrefs") (codes "no-progress") refl
-no_fetch_flag Flag.IncludeTag of = differ (codes "symrefs") (codes "include-tag") refl
-no_fetch_flag Flag.OfsDelta of = differ (codes "symrefs") (codes "ofs-delta") refl
-no_fetch_flag Flag.WaitForDone of = differ (codes "symrefs") (codes "wait-for-done") refl
-no_fetch_flag Flag.DeepenRelative of = differ (codes "symrefs") (codes "deepen-relative") refl
-no_fetch_flag Flag.Done of = differ (codes "symrefs") (codes "done") refl
-no_fetch_flag Flag.Peel of = absurd (cc of)
-no_fetch_flag Flag.Symrefs of = absurd (cc of)
-no_fetch_flag Flag.Unborn of = absurd (cc of)
-no_fetch_flag Flag.Size of = absurd (cc of)
-
+-- the text is a flag of another command
 symrefs_refused : IsArgumentFault Fetch offer_all (codes "symrefs") UnknownArgument
-symrefs_refused = inl ((no_fetch_flag, begins_with_none_by (keywords_of Fetch) (codes "symrefs") refl), refl)
+symrefs_refused = inl (inl (none_named Fetch (codes "symrefs") (λ of value h. cc), refl))
 
 same_command : (c d : Command) → Some c ≡ Some d → c ≡ d
 same_command c d e = cc

@@ -6,6 +6,7 @@ use Rattle.git_msg.specs.WrittenRequest.{text_line}
 use Rattle.git_server.specs.Machine.WrittenPackets.{Writes}
 use Rattle.git_server.proofs.WantedLines.{found_named, no_more_lines, passed_over, announced, within_names}
 use Rattle.git_server.proofs.wanted_refs.write_from.Goals as goal
+use Rattle.git_msg.specs.Asked.{want_refs_in}
 
 pub write_wanted-requires-clause-named : goal.write_wanted-requires-clause-named
 write_wanted-requires-clause-named g c =
@@ -15,7 +16,7 @@ pub returns-in-Some-find : goal.returns-in-Some-find
 returns-in-Some-find g c =
     let repo = (g.R.Repo.state c.args.repo.now).answers in
     let line = text_line (hex_of c.in-Some-find.id ++ 32 ∷ c.in-Some.name.now) in
-    let lines = announced repo (g.met.R.Repo.sound c.args.repo.now) c.args.request.now.asked.want_refs c.loop-name.at
+    let lines = announced repo (g.met.R.Repo.sound c.args.repo.now) (want_refs_in c.args.request.now.asked) c.loop-name.at
     c.in-Some.name.now c.in-Some.ensures.value c.in-Some-find.id c.in-Some-find.ensures in
     record {
       packet = line;
@@ -26,7 +27,7 @@ returns-in-Some-find g c =
 pub loop-name-smaller : goal.loop-name-smaller
 loop-name-smaller g c =
     let repo = (g.R.Repo.state c.args.repo.now).answers in
-    let within = within_names repo (g.met.R.Repo.sound c.args.repo.now) c.args.request.now.asked.want_refs c.loop-name.at
+    let within = within_names repo (g.met.R.Repo.sound c.args.repo.now) (want_refs_in c.args.request.now.asked) c.loop-name.at
     c.in-Some.name.now c.in-Some.ensures.value in
     omega (arith, within)
 
@@ -34,7 +35,7 @@ pub loop-name-preserved : goal.loop-name-preserved
 loop-name-preserved g c =
     let repo = (g.R.Repo.state c.args.repo.now).answers in
     record {
-      none = passed_over repo (g.met.R.Repo.sound c.args.repo.now) c.args.request.now.asked.want_refs c.loop-name.at
+      none = passed_over repo (g.met.R.Repo.sound c.args.repo.now) (want_refs_in c.args.request.now.asked) c.loop-name.at
           c.in-Some.name.now c.in-Some.ensures.value c.in_default-find.ensures ∙ c.loop-name.invariant.none;
       unwritten = c.loop-name.invariant.unwritten;
     }
@@ -42,7 +43,7 @@ loop-name-preserved g c =
 pub returns : goal.returns
 returns g c =
     let repo = (g.R.Repo.state c.args.repo.now).answers in
-    let none = no_more_lines repo c.args.request.now.asked.want_refs c.loop-name.at c.in_default.ensures.value in
+    let none = no_more_lines repo (want_refs_in c.args.request.now.asked) c.loop-name.at c.in_default.ensures.value in
     record {
       packet = delim;
       comes_first = ap (λ (l : List Pkt). l ++ delim ∷ []) (sym c.loop-name.invariant.none ∙ none);

@@ -9,11 +9,12 @@ use Rattle.git_host.specs.declared.fetch_answer.Place.{Place}
 use Rattle.git_host.specs.declared.fetch_answer.Place.TheVariants.{Shallow}
 use Rattle.git_host.proofs.FetchMoves.{after_first_line, after_line, line_held, line_sound, may_have_it, may_not_have}
 use Rattle.git_host.proofs.fetch_answer.FetchAnswer.boundary.Goals as goal
+use Rattle.git_msg.specs.Asked.{shallows_in}
 
 pub returns-then-not-may_have-clause-reported : goal.returns-then-not-may_have-clause-reported
 returns-then-not-may_have-clause-reported g c = (
   refl,
-  may_not_have c.args.self.now.request.asked.shallows c.args.line (ap (λ (ids : List ObjectName). may_have ids c.args.line) (sym c.shallows.ensures)
+  may_not_have (shallows_in c.args.self.now.request.asked) c.args.line (ap (λ (ids : List ObjectName). may_have ids c.args.line) (sym c.shallows.ensures)
       ∙ sym c.may_have.ensures ∙ c.if-not-may_have.true),
 )
 
@@ -35,7 +36,7 @@ returns-then-any-clause-reported g c t given h =
       holds = record {
         wanted = h.wanted;
         all = h.all;
-        sound = line_sound old.format q t line (record { of_format = of_format; unshallow = may_have_it q.shallows line known }) h.sound;
+        sound = line_sound old.format q t line (record { of_format = of_format; unshallow = may_have_it (shallows_in q) line known }) h.sound;
         stands = subst (λ (p : Place). StandsAt p q (with_line line t) (given ++ boundary_packet line ∷ [])) (sym was) (after_line q t given line more);
       };
     }
@@ -57,7 +58,7 @@ returns-clause-reported g c t given h =
       holds = record {
         wanted = h.wanted;
         all = h.all;
-        sound = line_sound old.format q t line (record { of_format = of_format; unshallow = may_have_it q.shallows line known }) h.sound;
+        sound = line_sound old.format q t line (record { of_format = of_format; unshallow = may_have_it (shallows_in q) line known }) h.sound;
         stands = after_first_line q t given line first;
       };
     }

@@ -10,6 +10,7 @@ use Rattle.git_host.specs.declared.fetch_answer.Place.{Place}
 use Rattle.git_host.proofs.FetchMoves.{after_all_wanted, after_pack_header, after_shallow_line, after_wanted}
 use Rattle.git_host.proofs.FetchMoves.{after_wanted_header, item_there, line_held}
 use Rattle.git_host.proofs.fetch_answer.FetchAnswer.give_line.Goals as goal
+use Rattle.git_msg.specs.Asked.{want_refs_in}
 
 pub returns-in-ShallowLine : goal.returns-in-ShallowLine
 returns-in-ShallowLine g c t given h =
@@ -49,7 +50,7 @@ returns-in-Wanted g c t given h =
     let q = c.args.self.now.request.asked in
     let next = c.in-Wanted.next in
     let at = subst (λ (p : Place). StandsAt p q t given) c.in-Wanted.is h.stands in
-    let (name, named) = item_there q.want_refs next at.0 in
+    let (name, named) = item_there (want_refs_in q) next at.0 in
     let (id, here) = item_there t.wanted next (omega (arith, at.0, h.all)) in
     record {
       packet = text_line (wanted_text (wanted_of id name));

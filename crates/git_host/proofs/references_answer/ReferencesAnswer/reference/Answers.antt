@@ -8,6 +8,7 @@ use Rattle.git_host.specs.declared.references_answer.ReferencesPlace.{References
 use Rattle.git_host.proofs.ReferencesMoves.{after_hidden, after_shown, entries_of, head_allowed, one_more_sound, ordered_alike, packet_alike, shown_alike}
 use Rattle.git_host.proofs.ReferencesMoves.{stands_after, unsound_format, unsound_head, unsound_order}
 use Rattle.git_host.proofs.references_answer.ReferencesAnswer.reference.Goals as goal
+use Rattle.git_msg.specs.Asked.{peel_in, symrefs_in}
 
 true_false : true ≡ false → ⊥
 true_false e = cc
@@ -77,7 +78,7 @@ returns g c = (
       c.is_of.ensures.named (c.is_of.ensures.of_format.0 c.if-not-is_of.false)
       (head_allowed old.place old.format q t (last_name old.last) given entry.name c.in_default.not-Whole
       (sym c.refuses_head.ensures ∙ c.if-refuses_head.false) h.stands) in
-      let packet = reference_packet q.symrefs q.peel entry in (
+      let packet = reference_packet (symrefs_in q) (peel_in q) entry in (
         packet,
         subst (λ (p : Pkt). Holds c.put_entry.new.hold.items p) (packet_alike q kept.asked entry alike) c.put_entry.ensures,
         record {

@@ -13,6 +13,7 @@ use Rattle.git_host.proofs.EntryLines.{entry_held, named_sound}
 use Rattle.git_host.proofs.ReferencesMoves.{after_hidden, after_shown, entries_of, head_allowed, ordered_alike, packet_alike, shown_alike}
 use Rattle.git_host.proofs.ReferencesMoves.{stands_after, unsound_head, unsound_order}
 use Rattle.git_host.proofs.references_answer.ReferencesAnswer.take_reference.Goals as goal
+use Rattle.git_msg.specs.Asked.{peel_in, ref_prefixes_in, symrefs_in}
 
 pub returns-then-is_second_head : goal.returns-then-is_second_head
 returns-then-is_second_head g c =
@@ -67,7 +68,7 @@ returns-then-not-shows_name g c =
               let alike = ordered_alike q old.listing kept h.alike c.put_in_order.ensures.same in
               let at = entries_of old.place old.format q t (last_name old.last) given c.in_default-place.not-Whole h.stands in
               let hidden = shown_alike q kept.asked entry.name _ alike
-              (ap (is_shown kept.asked.ref_prefixes) same ∙ sym c.shows_name.ensures ∙ c.if-not-shows_name.true) in
+              (ap (is_shown (ref_prefixes_in kept.asked)) same ∙ sym c.shows_name.ensures ∙ c.if-not-shows_name.true) in
               let sound = named_sound old.format t (last_name old.last) entry name at.sound at.last_is same after names
               (subst (λ (f : Format). IsOfFormat f entry) of_format of)
               (head_allowed old.place old.format q t (last_name old.last) given name c.in_default-place.not-Whole
@@ -106,14 +107,14 @@ returns g c =
               let alike = ordered_alike q old.listing kept h.alike c.put_in_order.ensures.same in
               let at = entries_of old.place old.format q t (last_name old.last) given c.in_default-place.not-Whole h.stands in
               let shown = shown_alike q kept.asked entry.name _ alike
-              (ap (is_shown kept.asked.ref_prefixes) same ∙ sym c.shows_name.ensures ∙ c.if-not-shows_name.false) in
+              (ap (is_shown (ref_prefixes_in kept.asked)) same ∙ sym c.shows_name.ensures ∙ c.if-not-shows_name.false) in
               let sound = named_sound old.format t (last_name old.last) entry name at.sound at.last_is same after names
               (subst (λ (f : Format). IsOfFormat f entry) of_format of)
               (head_allowed old.place old.format q t (last_name old.last) given name c.in_default-place.not-Whole
               (sym c.is_second_head.ensures ∙ c.if-is_second_head.false) h.stands) in
               let kept_name : last_name c.keep.new.self ≡ Some name = search (rules, tests) in
               let is_last : last_name c.keep.new.self ≡ Some entry.name = kept_name ∙ ap Some (sym same) in
-              let packet = reference_packet q.symrefs q.peel entry in (
+              let packet = reference_packet (symrefs_in q) (peel_in q) entry in (
                 packet,
                 subst (λ (p : Pkt). Holds (spelling_of (reference_packet (symrefs_of old) (peel_of old) entry)) p)
                     (packet_alike q old.listing.asked entry h.alike)
@@ -121,7 +122,8 @@ returns g c =
                 record {
                   alike = alike;
                   stands = subst
-                      (λ (last : Option (List ℕ)). StandsAtReferences c.after_reference-self.result old.format q (with_ref entry t) last (given ++ packet ∷ []))
+                      (λ (last : Option (List ℕ)). StandsAtReferences c.after_reference-self.result old.format q (with_ref entry t) last
+                      (given ++ packet ∷ []))
                       (sym is_last)
                       (subst (λ (p : ReferencesPlace). StandsAtReferences p old.format q (with_ref entry t) (Some entry.name) (given ++ packet ∷ []))
                       (sym c.after_reference-self.ensures)

@@ -1,14 +1,7 @@
+use Rattle.git_msg.proofs.PooledTexts.{ends_ordered}
 use Rattle.git_msg.proofs.parts.Texts.put_in_order.Goals as goal
-use Rattle.std.proofs.Common.{rules}
 
 pub invariant_of-self : goal.invariant_of-self
-invariant_of-self g c = search rules
-
-pub returns-clause-ordered : goal.returns-clause-ordered
-returns-clause-ordered g c = search rules
-
-pub returns-clause-alike : goal.returns-clause-alike
-returns-clause-alike g c = search rules
-
-pub returns-clause-prunes : goal.returns-clause-prunes
-returns-clause-prunes g c = search rules
+invariant_of-self g c =
+    let sound = c.order.ensures.sound in
+    record { sound = ends_ordered c.args.self.now.bytes.items c.args.self.now.ends c.order.new.ends (rw c.deref.ensures.value at sound) c.args.self.now.sound }

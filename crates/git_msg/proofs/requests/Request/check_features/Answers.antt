@@ -1,4 +1,4 @@
-use Rattle.std.proofs.Common.{◌≡◌, option_map, true, sym, ap, refl, ◌∙◌, rules}
+use Rattle.std.proofs.Common.{arith, ◌≡◌, option_map, true, sym, ap, refl, ◌∙◌}
 use Rattle.std.proofs.lemmas.List.Elements.{All-nil}
 use Rattle.std.proofs.lemmas.Option.{slice_get_within}
 use Rattle.git_msg.specs.Arguments.{Arg, is_offered, shown}
@@ -18,7 +18,10 @@ returns-then-not-is_offered g c =
     (λ all. let met = all_at (λ (arg : Arg). is_offered c.args.offer.now arg ≡ true) args c.arguments.i _ all at in cc, refl)
 
 pub arguments-smaller : goal.arguments-smaller
-arguments-smaller g c = search (rules, slice_get_within)
+arguments-smaller g c =
+    let at = sym c.argument.ensures.value ∙ ap (option_map shown) c.in-Some.is in
+    let within = slice_get_within (arguments_in (asked_of c.args.self.now)) c.arguments.i _ at in
+    omega (arith, within)
 
 pub arguments-preserved : goal.arguments-preserved
 arguments-preserved g c =
