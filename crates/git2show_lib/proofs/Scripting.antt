@@ -248,7 +248,10 @@ module _ {A : Type 0} where
             others = o.others;
             last = request;
             requests_are = refl;
-            open_is = open_more lines (argument arg) ∙ o.open_is ∙ ap (λ (c : Command). Some c) (sym (ap command_asked keeps.asked ∙ same_command (asked_of o.last) arg));
+            open_is =
+                open_more lines (argument arg)
+                ∙ o.open_is
+                ∙ ap (λ (c : Command). Some c) (sym (ap command_asked keeps.asked ∙ same_command (asked_of o.last) arg));
             kept_is = kept_more lines (argument arg) ∙ ap (λ (n : ℕ). n + length (written_text arg)) o.kept_is ∙ sym keeps.kept;
           };
         };

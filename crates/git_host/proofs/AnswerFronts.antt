@@ -63,7 +63,9 @@ module _ (format : Format) (q : List Arg) where
       → length (kept ++ fresh) ≡ length (want_refs_in q) → All (λ id. id.format ≡ format) (kept ++ fresh) → Completes q (no_facts (kept ++ fresh)) []
       → IsFrontBy format (fetch q) (of_fetch a (no_facts kept)) []
   with_all a kept fresh wants found count of c = record {
-    later = of_fetch (record { wants = all_there (wants_in q); found = map Some (kept ++ fresh) }) (absent_more c.absent c.ready c.ended (no_facts (kept ++ fresh)));
+    later =
+        of_fetch (record { wants = all_there (wants_in q); found = map Some (kept ++ fresh) })
+        (absent_more c.absent c.ready c.ended (no_facts (kept ++ fresh)));
     grows = (
       record {
         wants = wants;

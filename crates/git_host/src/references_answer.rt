@@ -60,7 +60,8 @@ pub struct ReferencesAnswer<A: Allocator + Copy> {
 impl<A: Allocator + Copy> ReferencesAnswer<A> {
     ghost use Rattle.git_msg.specs.Asked.{ls_refs, ref_prefixes_in, peel_in, symrefs_in};
     ghost use Rattle.git_host.specs.HostLookups.{references_asked};
-    ghost use Rattle.git_host.specs.ReferencesPlaces.{Ends, KeepsAs, Reports, ReportsUnborn, Starts, format_of, last_reported, peel_of, refuses_head, symrefs_of};
+    ghost use Rattle.git_host.specs.ReferencesPlaces.{Ends, KeepsAs, Reports, ReportsUnborn, Starts};
+    ghost use Rattle.git_host.specs.ReferencesPlaces.{format_of, last_reported, peel_of, refuses_head, symrefs_of};
 
     /// The answer to this request, before anything was reported for it.
     pub fn new(request: LsRefs<A>, format: Format) -> ReferencesAnswer<A>

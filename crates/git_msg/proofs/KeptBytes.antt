@@ -1,5 +1,6 @@
 -- The bytes stored of a request are counted with each further argument, and what follows for its arguments in their order.
-use Rattle.std.proofs.Common.{arith, refl, Bool, true, false, Bor, if◌then◌else◌, ◌≡◌, ℕ, ◌+◌, ◌<◌, ◌≤◌, ◌^◌, Option, Some, None, List, [], ◌∷◌, ◌++◌, ap, sym, subst, rules}
+use Rattle.std.proofs.Common.{arith, refl, Bool, true, false, Bor, if◌then◌else◌, ◌≡◌, ℕ, ◌+◌, ◌<◌, ◌≤◌, ◌^◌, Option, Some, None}
+use Rattle.std.proofs.Common.{List, [], ◌∷◌, ◌++◌, ap, sym, subst, rules}
 use Rattle.std.proofs.Common.{length, option_map, length-append}
 use Rattle.std.specs.Prelude.{All, IfSome, OnSome, slice_get}
 use Rattle.std.specs.Option.{option_copied}

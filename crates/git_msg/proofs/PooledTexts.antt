@@ -56,7 +56,8 @@ module _ (bytes text : List ℕ) (short : length text < 65536) where
         ≡ map (text_at bytes) (items_at ends (text_place of)) ++ where_same (text_place of) (text_place word) text
     texts_more of =
         ap (map (text_at (bytes ++ pooled text))) (added (text_place of))
-        ∙ map-append (text_at (bytes ++ pooled text)) (items_at ends (text_place of)) (where_same (text_place of) (text_place word) (length bytes + length text))
+        ∙ map-append (text_at (bytes ++ pooled text)) (items_at ends (text_place of))
+        (where_same (text_place of) (text_place word) (length bytes + length text))
         ∙ rw (texts_stay bytes (pooled text) (items_at ends (text_place of)) (sound of), one_text (text_place of == text_place word)) refl
 
     one_end : (list : List ℕ) (here : Bool) → All (IsEnd (bytes ++ pooled text)) list

@@ -119,7 +119,8 @@ same_lists f g same (word ∷ order) = rw (same word, same_lists f g same order)
 
 -- lists that differ for one word alone
 unchanged_at : (f g : Word → List Arg) (word first : Word) (order : List Word) (is : Bool) → is_word first word ≡ is → (is ≡ false → f first ≡ g first)
-    → (not is && never word order) ≡ true → (never word order ≡ true → flat_map f order ≡ flat_map g order) → flat_map f (first ∷ order) ≡ flat_map g (first ∷ order)
+    → (not is && never word order) ≡ true → (never word order ≡ true → flat_map f order ≡ flat_map g order)
+    → flat_map f (first ∷ order) ≡ flat_map g (first ∷ order)
 unchanged_at f g word first order true is same h later = absurd (cc)
 unchanged_at f g word first order false is same h later = rw (same refl, later h) refl
 
@@ -251,7 +252,8 @@ at_value : {X : Type 0} (value : Arg → Option X) (word : Word) (arg : Arg) (ar
 at_value value word arg args true is = refl
 at_value value word arg args false is = refl
 
-pub by_value : {X : Type 0} (value : Arg → Option X) (word : Word) (args : List Arg) → filter_map (value_in value word) args ≡ filter_map value (of_word word args)
+pub by_value : {X : Type 0} (value : Arg → Option X) (word : Word) (args : List Arg)
+    → filter_map (value_in value word) args ≡ filter_map value (of_word word args)
 by_value value word [] = refl
 by_value value word (arg ∷ args) =
     ap (cons_option (if is_of word arg then value arg else None)) (by_value value word args) ∙ at_value value word arg args (is_of word arg) refl

@@ -61,7 +61,8 @@ want_reads = record { is_argument = (refl, record { value = all_a; spelled = ref
 pub done_reads : ReadsAs Fetch offer_all (codes "done") (alone Flag.Done)
 done_reads = record { is_argument = (refl, record { value = []; spelled = refl; states = tt }); offered = refl }
 
-pub want_line : (limit : ℕ) → 45 ≤ limit → IsLine offer_all limit fetch_begun (text_line (codes "want " ++ all_a)) (argument (with_id ObjectWord.Want name_a) 45)
+pub want_line : (limit : ℕ) → 45 ≤ limit
+    → IsLine offer_all limit fetch_begun (text_line (codes "want " ++ all_a)) (argument (with_id ObjectWord.Want name_a) 45)
 want_line limit fits = record {
   is_text = record { no_error = no_error_by (codes "want " ++ all_a) refl; of = Fetch; asked = refl; reads = want_reads };
   long_is = refl;

@@ -13,7 +13,13 @@ script = record {
   follow = (
     (refl, refl),
     (
-      record { of = LsRefs; is_open = refl; reads = record { is_argument = (refl, record { value = []; spelled = refl; states = tt }); offered = refl }; short = omega arith; fits = omega arith },
+      record {
+        of = LsRefs;
+        is_open = refl;
+        reads = record { is_argument = (refl, record { value = []; spelled = refl; states = tt }); offered = refl };
+        short = omega arith;
+        fits = omega arith;
+      },
       (refl, tt),
     ),
   );

@@ -113,7 +113,8 @@ name_at_line repo UnknownRef (fetch q) (of_fetch a t) c args arg name (lacks, (m
     let had = has_all repo.has (wants_in q) more (cut ∙ ap (λ (l : List Bool). l ++ more) lacks.there) in
     let among = subst (All (λ (id : ObjectName). repo.has id ≡ true)) (wants_among q c args same) had in
     inr (refuses_reference repo arg name refuses
-    (there (λ x. IfSome (id_in ObjectWord.Want x) (λ id. repo.has id ≡ true)) (each_found (λ (id : ObjectName). repo.has id ≡ true) (id_in ObjectWord.Want) args among)))
+    (there (λ x. IfSome (id_in ObjectWord.Want x) (λ id. repo.has id ≡ true))
+    (each_found (λ (id : ObjectName). repo.has id ≡ true) (id_in ObjectWord.Want) args among)))
 name_at_line repo UnknownRef (fetch q) (of_references t) c args arg name lacks same there refuses = absurd lacks
 name_at_line repo UnknownRef (fetch q) (of_sizes sizes) c args arg name lacks same there refuses = absurd lacks
 name_at_line repo UnknownRef (ls_refs q) f c args arg name lacks same there refuses = absurd lacks

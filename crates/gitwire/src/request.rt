@@ -184,7 +184,8 @@ pub extern "C" fn gitwire_request_number(
     request: &mut GitwireRequest,
     which: u32,
 ) -> GitwireAnswer
-    ensures { Of (request_in request.old) (request_in request.new) (λ had. result ≡ announcing_which which (arguments_in (asked_of had))) (result ≡ answering What.NoHandle) }
+    ensures { Of (request_in request.old) (request_in request.new) (λ had. result ≡ announcing_which which (arguments_in (asked_of had)))
+        (result ≡ answering What.NoHandle) }
 {
     let Some(taken) = request.take(alloc) else {
         return GitwireAnswer::of(What::NoHandle);

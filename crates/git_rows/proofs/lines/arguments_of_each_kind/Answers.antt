@@ -45,22 +45,29 @@ returns-clause-time c = record {
 
 pub returns-clause-reference : goal.returns-clause-reference
 returns-clause-reference c =
-    record { is_argument = (refl, record { value = codes "refs/heads/@"; spelled = refl; states = (refl, ref_by (codes "refs/heads/@") refl refl) }); offered = refl }
+    record {
+      is_argument = (refl, record { value = codes "refs/heads/@"; spelled = refl; states = (refl, ref_by (codes "refs/heads/@") refl refl) });
+      offered = refl;
+    }
 
 pub returns-clause-flag : goal.returns-clause-flag
 returns-clause-flag c = record { is_argument = (refl, record { value = []; spelled = refl; states = tt }); offered = refl }
 
 pub returns-clause-revision : goal.returns-clause-revision
-returns-clause-revision c = record { is_argument = (refl, record { value = codes "x"; spelled = refl; states = (refl, (omega arith, omega arith)) }); offered = refl }
+returns-clause-revision c =
+    record { is_argument = (refl, record { value = codes "x"; spelled = refl; states = (refl, (omega arith, omega arith)) }); offered = refl }
 
 pub returns-clause-filter : goal.returns-clause-filter
-returns-clause-filter c = record { is_argument = (refl, record { value = codes "blob:none"; spelled = refl; states = (refl, (omega arith, omega arith)) }); offered = refl }
+returns-clause-filter c =
+    record { is_argument = (refl, record { value = codes "blob:none"; spelled = refl; states = (refl, (omega arith, omega arith)) }); offered = refl }
 
 pub returns-clause-prefix : goal.returns-clause-prefix
-returns-clause-prefix c = record { is_argument = (refl, record { value = codes "refs/"; spelled = refl; states = (refl, (omega arith, omega arith)) }); offered = refl }
+returns-clause-prefix c =
+    record { is_argument = (refl, record { value = codes "refs/"; spelled = refl; states = (refl, (omega arith, omega arith)) }); offered = refl }
 
 pub returns-clause-empty_prefix : goal.returns-clause-empty_prefix
-returns-clause-empty_prefix c = record { is_argument = (refl, record { value = []; spelled = refl; states = (refl, (omega arith, omega arith)) }); offered = refl }
+returns-clause-empty_prefix c =
+    record { is_argument = (refl, record { value = []; spelled = refl; states = (refl, (omega arith, omega arith)) }); offered = refl }
 
 pub returns-clause-not_another_flag : goal.returns-clause-not_another_flag
 returns-clause-not_another_flag c = λ h. let spelled = h.is_argument.1.spelled in cc

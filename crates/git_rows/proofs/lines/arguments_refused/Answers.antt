@@ -103,7 +103,8 @@ returns-clause-no_reference_name c = inl (inr (record {
 }))
 
 pub returns-clause-not_offered : goal.returns-clause-not_offered
-returns-clause-not_offered c = inr (record { arg = alone Flag.Unborn; is_argument = (refl, record { value = []; spelled = refl; states = tt }); unoffered = refl }, refl)
+returns-clause-not_offered c =
+    inr (record { arg = alone Flag.Unborn; is_argument = (refl, record { value = []; spelled = refl; states = tt }); unoffered = refl }, refl)
 
 pub returns-clause-not_by_another_name : goal.returns-clause-not_by_another_name
 returns-clause-not_by_another_name c = λ h. let same = one_argument_fault Fetch offer_all (codes "deepen 0") BadLine BadNumber h depth_of_zero in cc

@@ -31,7 +31,8 @@ invariant_of-self-2 g c =
 pub returns-clause-own : goal.returns-clause-own
 returns-clause-own g c command of all =
     rw c.in_ok-push.ensures.ok
-    (stay_of command (held c.self.inside.lists) (shown c.args.argument.now) (subst (λ (q : Kept (List Arg)). AreOf command q.asked) (sym c.self.view_is) all) of)
+    (stay_of command (held c.self.inside.lists) (shown c.args.argument.now)
+    (subst (λ (q : Kept (List Arg)). AreOf command q.asked) (sym c.self.view_is) all) of)
 
 pub returns-in_err-push-clause-own : goal.returns-in_err-push-clause-own
 returns-in_err-push-clause-own g c command of all =

@@ -12,7 +12,8 @@ loop-word-init g c = search (rules, held_is)
 pub loop-word-preserved : goal.loop-word-preserved
 loop-word-preserved g c =
     c.loop-word.invariant
-    ∙ later_argument c.args.self.now words c.loop-word.word-index c.loop-word.left _ c.loop-word-test.true (omega (arith, c.count-count.ensures, c.if-left-count.false))
+    ∙ later_argument c.args.self.now words c.loop-word.word-index c.loop-word.left _ c.loop-word-test.true
+    (omega (arith, c.count-count.ensures, c.if-left-count.false))
     ∙ ap (λ (n : ℕ). slice_get (flat_map (held_at c.args.self.now) (drop (c.loop-word.word-index + 1) words)) (c.loop-word.left - n))
     (sym c.count-count.ensures)
 
@@ -25,4 +26,5 @@ pub returns-then-left-count : goal.returns-then-left-count
 returns-then-left-count g c =
     c.at.ensures
     ∙ sym (c.loop-word.invariant
-    ∙ own_argument c.args.self.now words c.loop-word.word-index c.loop-word.left _ c.loop-word-test.true (omega (arith, c.count-count.ensures, c.if-left-count.true)))
+    ∙ own_argument c.args.self.now words c.loop-word.word-index c.loop-word.left _ c.loop-word-test.true
+    (omega (arith, c.count-count.ensures, c.if-left-count.true)))
