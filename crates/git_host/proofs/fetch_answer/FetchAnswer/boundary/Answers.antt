@@ -1,5 +1,6 @@
 use Rattle.std.proofs.Common.{rules, ◌≡◌, ◌++◌, ◌∷◌, [], ◌∙◌, ap, codes, refl, subst, sym, Bool, List}
 use Rattle.git_names.specs.ObjectName.{ObjectName}
+use Rattle.git_msg.specs.Asked.{shallows_in}
 use Rattle.git_msg.specs.WrittenRequest.{text_line}
 use Rattle.git_msg.specs.ResponseLines.{boundary_text}
 use Rattle.git_server.specs.FetchAnswers.{boundary_packet}
@@ -9,7 +10,6 @@ use Rattle.git_host.specs.declared.fetch_answer.Place.{Place}
 use Rattle.git_host.specs.declared.fetch_answer.Place.TheVariants.{Shallow}
 use Rattle.git_host.proofs.FetchMoves.{after_first_line, after_line, line_held, line_sound, may_have_it, may_not_have}
 use Rattle.git_host.proofs.fetch_answer.FetchAnswer.boundary.Goals as goal
-use Rattle.git_msg.specs.Asked.{shallows_in}
 
 pub returns-then-not-may_have-clause-reported : goal.returns-then-not-may_have-clause-reported
 returns-then-not-may_have-clause-reported g c = (
