@@ -1,6 +1,5 @@
 use Rattle.std.proofs.Common.{ℕ, Bool, true, List, [], ◌∷◌, ◌++◌, sym, subst, ◌∙◌}
 use Rattle.git_names.specs.declared.object_format.Format.{Format}
-use Rattle.git_pkt.specs.Packets.{Pkt}
 use Rattle.git_msg.specs.Asked.{fetch, ls_refs, object_info}
 use Rattle.git_host.specs.HostAnswers.{GivesOn, on_references}
 use Rattle.git_host.specs.HostSessions.{of_fetch, of_references, of_sizes}
