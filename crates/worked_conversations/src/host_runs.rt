@@ -13,7 +13,7 @@ use crate::trouble::Trouble;
 use git_pkt::{Recorded, RunFault};
 use git_server::{Faulty, Outcome, Repo};
 use git_store::{Hosted, RepoStore, Store, serve_store};
-use std::alloc::Global;
+use std::alloc::{AllocError, Global};
 use std::io::Cursor;
 use test_streams::Chunks;
 
@@ -28,12 +28,17 @@ pub fn of_case(
     let reports = CaseReports::new(alloc, script.replies.as_slice());
     let mut host = Host::new(alloc, setup, reports);
     let mut run = run(alloc, &mut host, chunks)?;
-    let left = host.reports().left();
+    state_left(alloc, &mut run, host.reports().left())?;
+    Ok(run)
+}
+
+// Appends the line with the number of the reports that are left.
+fn state_left(alloc: Global, run: &mut Run, left: usize) -> Result<(), AllocError> {
     if left > 0 {
         let line = format!(in alloc; "{left} reports are not asked for\n")?;
         append_str(&mut run.ending, line.as_str())?;
     }
-    Ok(run)
+    Ok(())
 }
 
 // Feeds the chunks to a host's server, whose host reports what this repository answers. Then the input ends.

@@ -89,36 +89,6 @@ fn append_texts(
     Ok(())
 }
 
-// Appends the prefixes of the references that a request asks for.
-fn append_ref_prefixes(
-    alloc: Global,
-    lines: &mut Vec<u8>,
-    request: &Request<Global>,
-) -> Result<(), AllocError> {
-    for i in 0..MANY {
-        match request.ref_prefix(i) {
-            Some(prefix) => append_text(alloc, lines, "ref-prefix", prefix)?,
-            None => break,
-        }
-    }
-    Ok(())
-}
-
-// Appends the names of the references that a request wants.
-fn append_want_refs(
-    alloc: Global,
-    lines: &mut Vec<u8>,
-    request: &Request<Global>,
-) -> Result<(), AllocError> {
-    for i in 0..MANY {
-        match request.want_ref(i) {
-            Some(name) => append_text(alloc, lines, "want-ref", name)?,
-            None => break,
-        }
-    }
-    Ok(())
-}
-
 // Appends what a request asks for, a line each.
 fn append_request(
     alloc: Global,

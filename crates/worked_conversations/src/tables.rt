@@ -9,7 +9,7 @@ use crate::setup::{limits, offer};
 use crate::texts::{append, append_str};
 use crate::trouble::Trouble;
 use crate::wordings::shown;
-use git_msg::{Argument, Caps, Command, read_capability, read_reference, word_at};
+use git_msg::{Argument, Caps, Command, TextWord, read_capability, read_reference, word_at};
 use git_names::{Format, Oid, RefName, Steps};
 use git_pkt::{Hold, Packet, put, text};
 use git_repository::{Packs, TextFault, read_repo};
@@ -197,7 +197,18 @@ fn state_argument(
     match argument {
         Argument::Flag(_) => append_line(alloc, lines, word.as_str(), LineContent::Nothing),
         Argument::Object(_, id) => state_object(alloc, lines, word.as_str(), id),
-        Argument::Text(_, text) => append_line(alloc, lines, word.as_str(), LineContent::Bytes(text)),
+        Argument::Text(TextWord::RefPrefix, prefix) => append_line(
+            alloc,
+            lines,
+            "prefix",
+            LineContent::Bytes(prefix),
+        ),
+        Argument::Text(_, text) => append_line(
+            alloc,
+            lines,
+            word.as_str(),
+            LineContent::Bytes(text),
+        ),
         Argument::Number(_, number) => state_number(alloc, lines, word.as_str(), number),
     }
 }
