@@ -3,15 +3,15 @@
 //! The phases of a conversation, and the calls that move it on; each packet is judged by `expected`, which advances with it:
 //!
 //! ```text
-//!               feed: the last expected packet
-//!  Hearing(due) ------------------------------------> Ready ---------> Leaving ----------------> Left
-//!     ^   ^  |                                          |     leave            pull: the flush
-//!     |   +--+ feed: one more                           | ask
-//!     |                                                 v
-//!     +--------------- pull: the last packet --------- Asking(writer) --+
-//!     |                                                       ^         | pull: one more
-//!     | feed, close: an error                                 +---------+
-//!     v
+//!                       feed: the last expected packet           leave             pull: the flush
+//!  Receiving(expected) --------------------------------> Ready -------> Leaving -----------------> Left
+//!    |  ^  |     ^                                         |
+//!    |  |  +-----+ feed: one more packet                   | ask
+//!    |  |                                                  v
+//!    |  +------------- pull: the last packet -------- Asking(writer) --+
+//!    |                                                     ^           | pull: one more packet
+//!    | feed, close: an error                               +-----------+
+//!    v
 //!  Failed(fault)
 //! ```
 
