@@ -14,11 +14,12 @@ use Rattle.git_msg.specs.Admission.{AreAdmitted, IsAdmitted, IsAnnouncedFor}
 use Rattle.git_msg.specs.Arguments.{Arg, with_id, with_text}
 use Rattle.git_msg.specs.declared.words.ObjectWord.{ObjectWord}
 use Rattle.git_msg.specs.declared.words.TextWord.{TextWord}
-use Rattle.git_msg.specs.Asked.{Asked, asked_by, id_in, text_in}
+use Rattle.git_msg.specs.Asked.{Asked, asked_by, id_in, text_in, written}
 use Rattle.git_msg.specs.Lines.{Line, arguments_of}
 use Rattle.git_msg.specs.Requests.{AreLines, Asks}
 use Rattle.git_msg.proofs.FoundParts.{All-filter_map}
 use Rattle.git_msg.proofs.LineLaws.{fronts_same, one_list_of_lines}
+use Rattle.git_msg.proofs.WrittenArguments.{all_written}
 use Rattle.git_msg.proofs.PacketFaults.{NotOfPackets, announced_of_packets}
 use Rattle.git_server.specs.Repository.{Repository, found_ref}
 use Rattle.git_server.specs.Admission.{barred, barred_ref, HasAsked}
@@ -61,13 +62,14 @@ ref_found repo arg h = tt
 asked_had : (repo : Repository) (c : Command) (args : List Arg) → All (IsAdmitted (barred repo)) args → HasAsked repo (asked_by c args)
 asked_had repo LsRefs args h = tt
 asked_had repo ObjectInfo args h = tt
-asked_had repo Fetch args h = (
-  All-filter_map (λ id. repo.has id ≡ true) (id_in ObjectWord.Want) args
-      (All-weaker (IsAdmitted (barred repo)) (λ arg. IfSome (id_in ObjectWord.Want arg) (λ id. repo.has id ≡ true)) (want_had repo) args h),
-  All-filter_map (λ name. found_ref repo.refs name ≢ None) (text_in TextWord.WantRef) args
-      (All-weaker (IsAdmitted (barred repo)) (λ arg. IfSome (text_in TextWord.WantRef arg) (λ name. found_ref repo.refs name ≢ None))
-      (ref_found repo) args h),
-)
+asked_had repo Fetch args h =
+    let all = all_written (IsAdmitted (barred repo)) args h in (
+      All-filter_map (λ id. repo.has id ≡ true) (id_in ObjectWord.Want) (written args)
+          (All-weaker (IsAdmitted (barred repo)) (λ arg. IfSome (id_in ObjectWord.Want arg) (λ id. repo.has id ≡ true)) (want_had repo) (written args) all),
+      All-filter_map (λ name. found_ref repo.refs name ≢ None) (text_in TextWord.WantRef) (written args)
+          (All-weaker (IsAdmitted (barred repo)) (λ arg. IfSome (text_in TextWord.WantRef arg) (λ name. found_ref repo.refs name ≢ None))
+          (ref_found repo) (written args) all),
+    )
 
 module _ (offer : Offer) (limit : ℕ) (repo : Repository) where
   -- a fault of the packets that no packet is refused for, but by a repository

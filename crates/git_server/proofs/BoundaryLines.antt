@@ -15,7 +15,7 @@ chosen false lines is = cc
 
 -- where the request cuts the history off, the lines are sent
 pub announced_for : (lines boundary : List Boundary) (q : List Arg) (shallows : List ObjectName)
-    → is_deepened q ≡ true → lines ≡ boundary → shallows ≡ (shallows_in q) → boundary_for boundary q ≡ announced_lines lines shallows
+    → is_deepened q ≡ true → lines ≡ boundary → shallows ≡ shallows_in q → boundary_for boundary q ≡ announced_lines lines shallows
 announced_for lines boundary q shallows is same also = chosen (is_deepened q) (announced_lines boundary (shallows_in q)) is ∙ cc
 
 some_chosen : (deepened : Bool) (lines : List Boundary) (i : ℕ) → i < length (if deepened then lines else []) → deepened ≡ true
@@ -24,7 +24,7 @@ some_chosen false lines i within = absurd (omega arith)
 
 -- where there is a line at a place, it is one of those that are sent
 pub announced_where_some : (lines boundary : List Boundary) (q : List Arg) (shallows : List ObjectName) (i : ℕ)
-    → lines ≡ boundary → shallows ≡ (shallows_in q) → i < length (boundary_for boundary q) → boundary_for boundary q ≡ announced_lines lines shallows
+    → lines ≡ boundary → shallows ≡ shallows_in q → i < length (boundary_for boundary q) → boundary_for boundary q ≡ announced_lines lines shallows
 announced_where_some lines boundary q shallows i same also within =
     announced_for lines boundary q shallows (some_chosen (is_deepened q) (announced_lines boundary (shallows_in q)) i within) same also
 

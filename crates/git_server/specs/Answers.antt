@@ -70,7 +70,7 @@ unborn_packet target = text_line (reference_text (reference_of None (codes "HEAD
 
 -- whether the request asks for that: for unborn references and for targets of references, with prefixes that show `HEAD`
 abbrev pub asks_for_unborn : List Arg → Bool
-asks_for_unborn q = (unborn_in q) && (symrefs_in q) && is_shown (ref_prefixes_in q) (codes "HEAD")
+asks_for_unborn q = unborn_in q && symrefs_in q && is_shown (ref_prefixes_in q) (codes "HEAD")
 
 -- it comes first, if it is asked for and `HEAD` is unborn
 abbrev pub unborn_packets : List Arg → Option (List ℕ) → List Pkt

@@ -5,7 +5,7 @@ use Rattle.std.specs.Option.{option_map}
 use Rattle.git_names.specs.ObjectName.{ObjectName}
 use Rattle.git_pkt.specs.Packets.{Pkt, flush, delim}
 use Rattle.git_msg.specs.declared.Boundary.{Boundary}
-use Rattle.git_msg.specs.Asked.{fetch, is_empty, only_negotiates, done_in, haves_in, want_refs_in, flag_among}
+use Rattle.git_msg.specs.Asked.{is_empty, only_negotiates, done_in, haves_in, want_refs_in, flag_among}
 use Rattle.git_msg.specs.ResponseLines.{ack_text, boundary_text, wanted_of, wanted_text}
 use Rattle.git_msg.specs.WrittenRequest.{text_line}
 use Rattle.git_server.specs.Repository.{Repository, found_ref}

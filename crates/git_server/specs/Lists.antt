@@ -4,7 +4,7 @@ use Rattle.std.specs.Option.{ForSome}
 use Rattle.git_names.specs.declared.object_format.Format.{Format}
 use Rattle.git_names.specs.ObjectName.{ObjectName}
 use Rattle.git_msg.specs.declared.Boundary.{Boundary}
-use Rattle.git_msg.specs.Asked.{is_empty}
+use Rattle.git_msg.specs.Asked.{is_empty, filters_in}
 use Rattle.git_server.specs.Repository.{Entry, IsRising, IsOfFormat, IsUnbornHead, bytes_of}
 use Rattle.git_server.specs.Objects.{AreRising, object_of}
 use Rattle.git_server.specs.declared.list_repo.RepoLists.{RepoLists}
@@ -47,7 +47,7 @@ lists_in l = lists_from l.format l.refs l.objects l.ready_after l.boundaries l.p
 
 -- the pack for a request: the filtered one if there is one and the request has a filter, otherwise the pack
 abbrev pub pack_for : Lists → List Arg → List ℕ
-pack_for lists request = if is_empty request.filters then lists.pack else unwrap_or lists.filtered lists.pack
+pack_for lists request = if is_empty (filters_in request) then lists.pack else unwrap_or lists.filtered lists.pack
 
 -- all object names are of the format
 pub record AreOfFormat (lists : Lists) : Type 0 where
