@@ -4,6 +4,7 @@ use Rattle.std.proofs.Common.{◌++◌, length, codes, inl, inr, ◌⊎◌, refl
 use Rattle.git_names.specs.declared.object_format.Format.{Format}
 use Rattle.git_pkt.specs.Packets.{Pkt, flush, flushes}
 use Rattle.git_pkt.specs.Splits.{Given}
+use Rattle.git_msg.specs.Arguments.{Arg}
 use Rattle.git_msg.specs.Asked.{Asked, ls_refs, fetch, object_info, ref_prefixes_in, peel_in, symrefs_in}
 use Rattle.git_msg.specs.WrittenRequest.{text_line, agent_line, format_line, lines_written}
 use Rattle.git_msg.specs.declared.offers.Caps.{Caps}
@@ -20,7 +21,6 @@ use Rattle.git_server.proofs.Flushes.{flushes-append}
 use Rattle.git_server.proofs.OneSession.{line_is_unsent}
 use Rattle.git_laws.proofs.RequestsReceived.{lines_clear, lines_end, lines_of}
 use Rattle.git_server.specs.declared.advertisement.AdvertisementLine.TheVariants.{Version}
-use Rattle.git_msg.specs.Arguments.{Arg}
 
 -- ---- lists whose last packet is a flush
 

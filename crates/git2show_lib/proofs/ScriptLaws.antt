@@ -1,5 +1,5 @@
 -- A text is one script, or has one first bad line.
-use Rattle.std.proofs.Common.{rules, arith, ◌≡◌, ℕ, List, [], refl, ap, sym, ◌∙◌, subst, length, inl}
+use Rattle.std.proofs.Common.{arith, ◌≡◌, ℕ, List, [], refl, ap, sym, ◌∙◌, subst, length, inl}
 use Rattle.git_pkt.specs.declared.fault.Kind.TheVariants.{UnknownArgument}
 use Rattle.git_msg.specs.declared.offers.Offer.{Offer}
 use Rattle.git_msg.specs.declared.arguments.Command.{Command}

@@ -13,12 +13,11 @@ use Rattle.git_names.specs.declared.object_format.Format.{Format}
 use Rattle.git_pkt.specs.declared.fault.Kind.{Kind}
 use Rattle.git_msg.specs.declared.offers.Offer.{Offer}
 use Rattle.git_msg.specs.declared.arguments.Command.{Command}
-use Rattle.git_msg.specs.declared.arguments.Command.TheVariants.{LsRefs, Fetch, ObjectInfo}
 use Rattle.git_msg.specs.declared.requests.Request.{Request}
 use Rattle.git_msg.specs.Arguments.{Arg, IsArgumentFault, IsInRange, ReadsAs, name_of, stored_in, written_text}
-use Rattle.git_msg.specs.Asked.{Asked, asked_by, command_asked, nothing_asked, with_argument}
+use Rattle.git_msg.specs.Asked.{Asked, command_asked, nothing_asked, with_argument}
 use Rattle.git_msg.specs.Checks.{Passes, Refuses}
-use Rattle.git_msg.specs.Machine.HeldRequest.{IsEmpty, Keeps, add_checks, command_of, format_of, holding_of, limit_of}
+use Rattle.git_msg.specs.Machine.HeldRequest.{IsEmpty, Keeps, add_checks, asked_of, command_of, format_of, holding_of, limit_of}
 use Rattle.git_msg.specs.Memory.{HasRefused}
 use Rattle.git_msg.specs.Kept.{Adds, IsNew, Kept}
 use Rattle.git_msg.proofs.ArgumentsInOrder.{asked_snoc, command_for, same_command}
@@ -45,11 +44,6 @@ module _ {X : Type 0} where
       let long : length items - 1 ≡ length others = omega (arith, ap length is, length-append others (last ∷ [])) in
       rw long (rw is (set_at others last [] x (length others) refl))
 
-nothing_yet : (c : Command) → nothing_asked c ≡ asked_by c []
-nothing_yet LsRefs = refl
-nothing_yet Fetch = refl
-nothing_yet ObjectInfo = refl
-
 -- what is kept is equal where its parts are
 same_kept : (k l : Kept Asked) → k.format ≡ l.format → k.asked ≡ l.asked → k.kept ≡ l.kept → k.limit ≡ l.limit → k.stored ≡ l.stored → k ≡ l
 same_kept k l formats asks counts limits sizes =
@@ -61,7 +55,7 @@ same_kept k l formats asks counts limits sizes =
 
 -- a new request has no arguments
 new_request : (c : Command) (format : Format) (limit : ℕ) (k : Kept Asked) → IsNew (nothing_asked c) format limit k → k ≡ request_of format limit c []
-new_request c format limit k new = same_kept k (request_of format limit c []) new.format_is (new.asked ∙ nothing_yet c) new.kept new.limit_is new.stored
+new_request c format limit k new = same_kept k (request_of format limit c []) new.format_is new.asked new.kept new.limit_is new.stored
 
 -- and one that keeps an argument more has it after the others
 request_more : (c : Command) (format : Format) (limit : ℕ) (args : List Arg) (arg : Arg) (old new : Kept Asked) → old ≡ request_of format limit c args

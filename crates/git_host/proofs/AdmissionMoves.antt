@@ -6,6 +6,7 @@ use Rattle.std.proofs.lemmas.List.Elements.{All-nil, All-push}
 use Rattle.std.proofs.lemmas.Option.{slice_get_cases}
 use Rattle.git_names.specs.ObjectName.{ObjectName}
 use Rattle.git_names.specs.declared.object_format.Format.{Format}
+use Rattle.git_msg.specs.Arguments.{Arg}
 use Rattle.git_msg.specs.Asked.{want_refs_in, wants_in}
 use Rattle.git_host.specs.Admissions.{AdmissionFacts, AtWant, AtWantRef, IsNotOurs, IsUnknownRef, StandsAtStep, all_there, nothing_reported}
 use Rattle.git_host.specs.Admissions.{is_want_ref, reference_step, step_by, want_step, with_found, with_want}
@@ -13,7 +14,6 @@ use Rattle.git_host.specs.declared.admission.AdmissionStep.{AdmissionStep}
 use Rattle.git_host.specs.declared.admission.AdmissionStep.TheVariants.{AskWant, AskWantRef, Admitted, Refused}
 use Rattle.git_host.proofs.FetchMoves.{item_there, one_more}
 use Rattle.git_host.proofs.Picked.{length_more, map_more}
-use Rattle.git_msg.specs.Arguments.{Arg}
 
 -- each wanted reference before this place was reported
 record SoFar (at : ℕ) (format : Format) (q : List Arg) (a : AdmissionFacts) (ids : List ObjectName) : Type 0 where

@@ -7,6 +7,7 @@ use Rattle.std.proofs.lemmas.List.Elements.{All-append, All-nil, All-replicate}
 use Rattle.git_names.specs.ObjectName.{ObjectName}
 use Rattle.git_names.specs.declared.object_format.Format.{Format}
 use Rattle.git_pkt.specs.Packets.{Pkt, flush}
+use Rattle.git_msg.specs.Arguments.{Arg}
 use Rattle.git_msg.specs.Asked.{Asked, fetch, ls_refs, object_info, only_negotiates, oids_in, want_refs_in, wants_in}
 use Rattle.git_msg.specs.WrittenRequest.{text_line}
 use Rattle.git_server.specs.FetchAnswers.{negotiates}
@@ -43,7 +44,6 @@ use Rattle.git_host.proofs.FetchMoves.{begins, none_sound, sound_so}
 use Rattle.git_host.proofs.HostAnswerMoves.{all_found, fetch_gives, gives_same}
 use Rattle.git_host.proofs.ReferencesMoves.{after_refs, first_entries, sound_to_the_end}
 use Rattle.git_host.proofs.SizesMoves.{after_size, after_size_header, size_there}
-use Rattle.git_msg.specs.Arguments.{Arg}
 
 no_more : {X : Type 0} (xs : List X) → IsFront xs xs
 no_more xs = ([], sym (append-nil xs))

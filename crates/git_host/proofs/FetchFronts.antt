@@ -5,6 +5,7 @@ use Rattle.std.specs.Option.{ForSome}
 use Rattle.git_names.specs.ObjectName.{ObjectName}
 use Rattle.git_pkt.specs.Packets.{Pkt, delim}
 use Rattle.git_msg.specs.declared.Boundary.{Boundary}
+use Rattle.git_msg.specs.Arguments.{Arg}
 use Rattle.git_msg.specs.Asked.{is_empty, haves_in, want_refs_in}
 use Rattle.git_server.specs.Packs.{whole}
 use Rattle.git_server.specs.FetchAnswers.{ack_packet, nak_or_acks, ready_lines, shallow_info}
@@ -18,7 +19,6 @@ use Rattle.git_host.specs.declared.fetch_answer.Place.TheVariants.{PackHeader, P
 use Rattle.git_host.proofs.FetchMoves.{SoFar, after_all_wanted, after_delimiter, after_header, after_lines, after_nak, after_name, after_no_line}
 use Rattle.git_host.proofs.FetchMoves.{after_not_common, after_pack, after_pack_header, after_shallow_line, after_unready, after_wanted_header}
 use Rattle.git_host.proofs.FetchMoves.{all_reported, item_there, opening_is, so_far_ends}
-use Rattle.git_msg.specs.Arguments.{Arg}
 
 -- the store has none of the objects that were not reported on yet, it is ready or not, and its boundary has ended or not
 abbrev pub absent_more : List Bool → Option Bool → Bool → FetchFacts → FetchFacts

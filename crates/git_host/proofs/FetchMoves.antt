@@ -15,7 +15,9 @@ use Rattle.git_pkt.specs.declared.band.Band.{Band}
 use Rattle.git_pkt.specs.declared.band.Band.TheVariants.{Pack as OnPack, Progress as OnProgress}
 use Rattle.git_msg.specs.declared.Boundary.{Boundary}
 use Rattle.git_msg.specs.declared.Boundary.TheVariants.{Shallow as ShallowAt, Unshallow as UnshallowAt}
-use Rattle.git_msg.specs.Asked.{fetch, is_empty, only_negotiates, haves_in, want_refs_in, flag_among}
+use Rattle.git_msg.specs.declared.flags.Flag.{Flag}
+use Rattle.git_msg.specs.Arguments.{Arg}
+use Rattle.git_msg.specs.Asked.{is_empty, only_negotiates, haves_in, want_refs_in, flag_among}
 use Rattle.git_msg.specs.ResponseLines.{wanted_of, wanted_text}
 use Rattle.git_msg.specs.WrittenRequest.{text_line}
 use Rattle.git_server.specs.Packs.{Manner, whole, packfile_header}
@@ -35,8 +37,6 @@ use Rattle.git_host.specs.declared.fetch_answer.Place.{Place}
 use Rattle.git_host.specs.declared.fetch_answer.Place.TheVariants.{Header, Have, Nak, Ready, Delimiter, Shallow, ShallowLine, WantedHeader, Wanted, WantedEnd}
 use Rattle.git_host.specs.declared.fetch_answer.Place.TheVariants.{PackHeader, Pack, Whole as AtEnd, Broken as AtLoss}
 use Rattle.git_host.proofs.Picked.{empty_is, length_more, lines_more, map_more, not_empty_more, pack_more, picked_false, picked_true, progress_more}
-use Rattle.git_msg.specs.Arguments.{Arg}
-use Rattle.git_msg.specs.declared.flags.Flag.{Flag}
 
 none_reported : (wanted : List ObjectName) → NothingAfter (no_facts wanted)
 none_reported wanted = record { boundary = refl; pack = refl; progress = refl }

@@ -12,6 +12,7 @@ use Rattle.git_names.specs.declared.object_format.Format.{Format}
 use Rattle.git_pkt.specs.Packets.{Pkt, longest_payload}
 use Rattle.git_msg.specs.declared.Boundary.{Boundary}
 use Rattle.git_msg.specs.Kept.{Kept}
+use Rattle.git_msg.specs.Arguments.{Arg}
 use Rattle.git_msg.specs.Asked.{fetch, ls_refs, object_info}
 use Rattle.git_server.specs.Packs.{Manner, whole, broken}
 use Rattle.git_server.specs.Repository.{Entry}
@@ -66,7 +67,6 @@ use Rattle.git_host.specs.declared.report.HostReported.TheVariants.{Taken, NotAs
 use Rattle.git_host.specs.declared.report.Report.{Report}
 use Rattle.git_host.specs.declared.report.Report.TheVariants.{Want, WantRef, Boundary as LineOf, BoundaryEnd as EndsIt, Progress as ProgressOf, Reference}
 use Rattle.git_host.specs.declared.report.Report.TheVariants.{Unborn}
-use Rattle.git_msg.specs.Arguments.{Arg}
 
 pub on_err : {X E : Type 0} (r : Result X E) (e : E) (P : Type 0) → r ≡ Err e → OnErr r P → P
 on_err (Ok x) e P is h = absurd (cc)

@@ -4,6 +4,7 @@ use Rattle.git_names.specs.ObjectName.{ObjectName}
 use Rattle.git_names.specs.declared.object_format.Format.{Format}
 use Rattle.git_pkt.specs.Packets.{Pkt}
 use Rattle.git_msg.specs.declared.streams.RequestStream.{RequestStream}
+use Rattle.git_msg.specs.Arguments.{Arg}
 use Rattle.git_msg.specs.Asked.{Asked, fetch, ls_refs, object_info, want_refs_in}
 use Rattle.git_msg.specs.Machine.RequestStreams.{bytes_held as stream_held}
 use Rattle.git_host.specs.Admissions.{AdmissionFacts, StandsAtStep}
@@ -19,7 +20,6 @@ use Rattle.git_host.specs.declared.host_answer.HostAnswer.TheVariants.{Admission
 use Rattle.git_host.specs.declared.host_server.Phase.{Phase}
 use Rattle.git_host.specs.declared.host_server.Phase.TheVariants.{Advertising, Reading, Asked as WholeRequest, Answering, Refusing, Ended}
 use Rattle.git_host.specs.declared.host_server.HostServer.{HostServer}
-use Rattle.git_msg.specs.Arguments.{Arg}
 
 objects_at : (step : AdmissionStep) (format : Format) (q : List Arg) (a : AdmissionFacts) (ids : List ObjectName) → StandsAtStep step format q a ids
     → length ids ≤ length (want_refs_in q)

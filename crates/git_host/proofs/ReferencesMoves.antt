@@ -10,6 +10,7 @@ use Rattle.std.proofs.lemmas.Slice.Eq.{bytes_eq-Decides}
 use Rattle.git_names.specs.RefName.{IsRefName}
 use Rattle.git_names.specs.declared.object_format.Format.{Format}
 use Rattle.git_pkt.specs.Packets.{Pkt, flush}
+use Rattle.git_msg.specs.Arguments.{Arg}
 use Rattle.git_msg.specs.Asked.{ref_prefixes_in, peel_in, symrefs_in}
 use Rattle.git_msg.specs.Kept.{Kept}
 use Rattle.git_msg.specs.Prefixes.{OrdersPrefixes, is_shown}
@@ -22,7 +23,6 @@ use Rattle.git_host.specs.declared.references_answer.ReferencesPlace.{References
 use Rattle.git_host.specs.declared.references_answer.ReferencesPlace.TheVariants.{First, Entries, AfterUnborn, Whole}
 use Rattle.git_host.proofs.Picked.{length_more, map_more}
 use Rattle.git_server.proofs.Rising.{last_is, last_rises, rising_more}
-use Rattle.git_msg.specs.Arguments.{Arg}
 
 filter_by : {X : Type 0} (y : X) (all kept last : List X) → all ≡ kept ++ last → (b : Bool)
     → (if b then y ∷ all else all) ≡ (if b then y ∷ kept else kept) ++ last

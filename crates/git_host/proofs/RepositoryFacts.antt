@@ -7,6 +7,7 @@ use Rattle.git_pkt.specs.Packets.{Pkt}
 use Rattle.git_pkt.specs.Bands.{AreBands}
 use Rattle.git_pkt.specs.declared.band.Band.TheVariants.{Pack as OnPack}
 use Rattle.git_msg.specs.declared.Boundary.{Boundary}
+use Rattle.git_msg.specs.Arguments.{Arg}
 use Rattle.git_msg.specs.Asked.{haves_in, want_refs_in}
 use Rattle.git_msg.specs.ResponseLines.{wanted_of, wanted_text}
 use Rattle.git_msg.specs.WrittenRequest.{text_line}
@@ -18,7 +19,6 @@ use Rattle.git_server.specs.FetchAnswers.{acknowledgments as acknowledgments_of,
 use Rattle.git_host.specs.FetchFacts.{AreParts, FetchFacts, HasPack, IsFetchAnswerWhere, IsFetchAnswerOf, acknowledgments}
 use Rattle.git_host.specs.FetchFacts.{last_packet, opening, picked, readiness, sends_pack, wanted_lines, wanted_refs}
 use Rattle.git_host.specs.RepositoryFacts.{AreFound, IsPackOf, AreOfRepository}
-use Rattle.git_msg.specs.Arguments.{Arg}
 
 pub picked_has : (has : ObjectName → Bool) (ids : List ObjectName) → picked (map has ids) ids ≡ filter has ids
 picked_has has [] = refl

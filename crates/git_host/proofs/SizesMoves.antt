@@ -4,6 +4,7 @@ use Rattle.std.proofs.lemmas.Option.{slice_get_cases}
 use Rattle.git_names.specs.ObjectName.{ObjectName}
 use Rattle.git_names.specs.declared.object_format.Format.{Format}
 use Rattle.git_pkt.specs.Packets.{Pkt, flush}
+use Rattle.git_msg.specs.Arguments.{Arg}
 use Rattle.git_msg.specs.Asked.{oids_in}
 use Rattle.git_msg.specs.WrittenRequest.{text_line}
 use Rattle.git_server.specs.Answers.{info_packet, ls_refs_answer, object_info_answer, reference_packets, unborn_packets}
@@ -11,7 +12,6 @@ use Rattle.git_server.specs.Repository.{Entry, Repository}
 use Rattle.git_host.specs.ReferencesPlaces.{IsReferencesAnswerOf, ReferencesFacts}
 use Rattle.git_host.specs.SizesPlaces.{AtObject, IsSizesAnswerOf, size_line, size_lines}
 use Rattle.git_host.proofs.Picked.{length_more}
-use Rattle.git_msg.specs.Arguments.{Arg}
 
 lines_on : (sizes : List (Option ℕ)) (ids : List ObjectName) (size : Option ℕ) (id : ObjectName) → slice_get ids (length sizes) ≡ Some id
     → size_lines (sizes ++ size ∷ []) ids ≡ size_lines sizes ids ++ size_line size id ∷ []

@@ -5,6 +5,7 @@ use Rattle.git_names.specs.ObjectName.{ObjectName}
 use Rattle.git_names.specs.declared.object_format.Format.{Format}
 use Rattle.git_pkt.specs.declared.fault.Kind.{Kind}
 use Rattle.git_pkt.specs.declared.fault.Kind.TheVariants.{NotOurs, UnknownRef}
+use Rattle.git_msg.specs.Arguments.{Arg}
 use Rattle.git_msg.specs.Asked.{want_refs_in, wants_in}
 use Rattle.git_msg.specs.Kept.{Kept}
 use Rattle.git_host.specs.declared.admission.AdmissionStep.{AdmissionStep}
@@ -12,7 +13,6 @@ use Rattle.git_host.specs.declared.admission.AdmissionStep.TheVariants.{AskWant,
 use Rattle.git_host.specs.declared.admission.WantRefReported.{WantRefReported}
 use Rattle.git_host.specs.declared.admission.WantRefReported.TheVariants.{Taken, MixedFormats, NotAsked}
 use Rattle.git_host.specs.declared.admission.Admission.{Admission}
-use Rattle.git_msg.specs.Arguments.{Arg}
 
 -- what a store reported, by place: whether it has each wanted object, and the object of each wanted reference, if there is such a reference
 pub record AdmissionFacts : Type 0 where

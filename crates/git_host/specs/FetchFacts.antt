@@ -10,15 +10,15 @@ use Rattle.git_pkt.specs.declared.band.Band.{Band}
 use Rattle.git_pkt.specs.declared.band.Band.TheVariants.{Pack, Progress}
 use Rattle.git_msg.specs.declared.Boundary.{Boundary}
 use Rattle.git_msg.specs.declared.Boundary.TheVariants.{Shallow, Unshallow}
-use Rattle.git_msg.specs.Asked.{fetch, only_negotiates, haves_in, shallows_in, want_refs_in, flag_among}
+use Rattle.git_msg.specs.declared.flags.Flag.{Flag}
+use Rattle.git_msg.specs.Arguments.{Arg}
+use Rattle.git_msg.specs.Asked.{only_negotiates, haves_in, shallows_in, want_refs_in, flag_among}
 use Rattle.git_msg.specs.ResponseLines.{wanted_of, wanted_text}
 use Rattle.git_msg.specs.WrittenRequest.{text_line}
 use Rattle.git_server.specs.Packs.{Manner, whole, broken, pack_source_packet, packfile_header}
 use Rattle.git_server.specs.FetchAnswers.{IsFlushed, nak_or_acks, negotiates, ready_lines, section, shallow_info}
 use Rattle.git_server.specs.Objects.{object_cmp, object_of}
 use Rattle.git_server.specs.Repository.{IsUnshallowOf}
-use Rattle.git_msg.specs.Arguments.{Arg}
-use Rattle.git_msg.specs.declared.flags.Flag.{Flag}
 
 -- what a store reported for one fetch: whether it has each object that the client has, by place; whether it is ready to send a pack, if it was
 -- asked that; the shallow boundary, and whether that is all of it; the object of each wanted reference, by place; the bytes of the pack, and those

@@ -3,7 +3,9 @@ use Rattle.std.specs.Prelude.{◌≡◌, ◌≢◌, ℕ, ◌<◌, ◌≤◌, Boo
 use Rattle.git_names.specs.declared.object_format.Format.{Format}
 use Rattle.git_pkt.specs.Packets.{Pkt, body_of, longest_payload, spelling_of}
 use Rattle.git_msg.specs.declared.Boundary.{Boundary}
-use Rattle.git_msg.specs.Asked.{fetch, is_empty, only_negotiates, haves_in, shallows_in, want_refs_in, flag_among}
+use Rattle.git_msg.specs.declared.flags.Flag.{Flag}
+use Rattle.git_msg.specs.Arguments.{Arg}
+use Rattle.git_msg.specs.Asked.{is_empty, only_negotiates, haves_in, shallows_in, want_refs_in, flag_among}
 use Rattle.git_msg.specs.Kept.{Kept}
 use Rattle.git_msg.specs.WrittenRequest.{text_line}
 use Rattle.git_server.specs.Packs.{whole, broken, packfile_header}
@@ -24,8 +26,6 @@ use Rattle.git_host.specs.declared.fetch_answer.ProgressReported.TheVariants as 
 use Rattle.git_host.specs.declared.fetch_answer.BoundaryEnd.{BoundaryEnd}
 use Rattle.git_host.specs.declared.fetch_answer.BoundaryEnd.TheVariants.{NotAsked, Absent, Packet as DelimGiven}
 use Rattle.git_host.specs.declared.fetch_answer.FetchAnswer.{FetchAnswer}
-use Rattle.git_msg.specs.Arguments.{Arg}
-use Rattle.git_msg.specs.declared.flags.Flag.{Flag}
 
 -- nothing was reported of the pack
 pub record NoPack (t : FetchFacts) : Type 0 where

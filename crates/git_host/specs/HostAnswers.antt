@@ -9,6 +9,7 @@ use Rattle.git_pkt.specs.declared.fault.Kind.{Kind}
 use Rattle.git_msg.specs.declared.requests.Request.{Request}
 use Rattle.git_msg.specs.Kept.{Kept}
 use Rattle.git_msg.specs.Machine.HeldRequest.{asked_of as request_asked, holding_of}
+use Rattle.git_msg.specs.Arguments.{Arg}
 use Rattle.git_msg.specs.Asked.{Asked, fetch, ls_refs, object_info, shallows_in}
 use Rattle.git_server.specs.Packs.{Manner, whole, broken}
 use Rattle.git_server.specs.Objects.{object_of}
@@ -64,7 +65,6 @@ use Rattle.git_host.specs.declared.report.Report.{Report}
 use Rattle.git_host.specs.declared.report.Report.TheVariants.{Want, WantRef, Have, Ready, Boundary, BoundaryEnd as EndsBoundary, Pack, Progress}
 use Rattle.git_host.specs.declared.report.Report.TheVariants.{PackEnd, Failed}
 use Rattle.git_host.specs.declared.report.Report.TheVariants.{Reference, Unborn, ReferencesEnd, Size}
-use Rattle.git_msg.specs.Arguments.{Arg}
 
 -- ---- what a report adds to what was reported for its request
 

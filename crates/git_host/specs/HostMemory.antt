@@ -1,5 +1,6 @@
 -- How many bytes a host's server holds, and what bounds them.
 use Rattle.std.specs.Prelude.{◌≡◌, ℕ, ◌+◌, ◌*◌, length}
+use Rattle.git_msg.specs.Asked.{want_refs_in}
 use Rattle.git_msg.specs.Machine.HeldRequest.{kept_of, stored_of}
 use Rattle.git_msg.specs.Memory.{HasRefused}
 use Rattle.git_msg.specs.Machine.RequestStreams.{bytes_held as stream_held}
@@ -15,7 +16,6 @@ use Rattle.git_host.specs.declared.host_server.Phase.TheVariants.{Asked as Whole
 use Rattle.git_host.specs.declared.host_server.HostServer.{HostServer}
 use Rattle.git_host.specs.declared.report.HostReported.{HostReported}
 use Rattle.git_host.specs.declared.report.HostReported.TheVariants.{OutOfMemory}
-use Rattle.git_msg.specs.Asked.{want_refs_in}
 
 module _ {A : Type 0} where
   -- the bytes counted of the lines of the request that is asked about or answered, and those stored of their values

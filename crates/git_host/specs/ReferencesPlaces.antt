@@ -5,6 +5,7 @@ use Rattle.std.specs.Str.{bytes_eq}
 use Rattle.git_names.specs.declared.object_format.Format.{Format}
 use Rattle.git_names.specs.RefName.{IsRefName}
 use Rattle.git_pkt.specs.Packets.{Pkt, spelling_of}
+use Rattle.git_msg.specs.Arguments.{Arg}
 use Rattle.git_msg.specs.Asked.{ref_prefixes_in, peel_in, symrefs_in, unborn_in}
 use Rattle.git_msg.specs.Kept.{Kept}
 use Rattle.git_msg.specs.Prefixes.{ShowAlike}
@@ -20,7 +21,6 @@ use Rattle.git_host.specs.declared.references_answer.Reported.{Reported}
 use Rattle.git_host.specs.declared.references_answer.Reported.TheVariants.{Packet, Hidden, NotAsked}
 use Rattle.git_host.specs.declared.references_answer.ReferencesAnswer.{ReferencesAnswer}
 use Rattle.git_host.specs.declared.report.ReferenceFault.{ReferenceFault}
-use Rattle.git_msg.specs.Arguments.{Arg}
 
 -- what a store reported for one request for references: what an unborn `HEAD` points to, its references, and whether those are all of them
 pub record ReferencesFacts : Type 0 where
@@ -51,9 +51,9 @@ IsLast refs (Some name) = (front : List Entry) × (entry : Entry) × (refs ≡ f
 
 -- the request that is answered is this one, but for the order of its prefixes
 pub record IsAlike (q kept : List Arg) : Type 0 where
-  pub symrefs : (symrefs_in kept) ≡ (symrefs_in q)
-  pub peel : (peel_in kept) ≡ (peel_in q)
-  pub unborn : (unborn_in kept) ≡ (unborn_in q)
+  pub symrefs : symrefs_in kept ≡ symrefs_in q
+  pub peel : peel_in kept ≡ peel_in q
+  pub unborn : unborn_in kept ≡ unborn_in q
   pub alike : ShowAlike (ref_prefixes_in q) (ref_prefixes_in kept)
 
 -- the packets that what was reported so far calls for

@@ -1,6 +1,7 @@
 -- What a store reports if it answers as a repository does.
 use Rattle.std.specs.Prelude.{◌≡◌, ℕ, true, List, [], ◌∷◌, ◌++◌, Some, map}
 use Rattle.git_names.specs.ObjectName.{ObjectName}
+use Rattle.git_msg.specs.Arguments.{Arg}
 use Rattle.git_msg.specs.Asked.{haves_in, want_refs_in}
 use Rattle.git_server.specs.Packs.{Manner, whole, broken}
 use Rattle.git_server.specs.Repository.{Entry, Repository, found_ref}

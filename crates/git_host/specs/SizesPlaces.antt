@@ -2,6 +2,7 @@
 use Rattle.std.specs.Prelude.{◌≡◌, ℕ, ◌<◌, ◌≤◌, Bool, true, false, List, [], ◌∷◌, ◌++◌, length, Option, codes}
 use Rattle.git_names.specs.ObjectName.{ObjectName}
 use Rattle.git_pkt.specs.Packets.{Pkt, flush}
+use Rattle.git_msg.specs.Arguments.{Arg}
 use Rattle.git_msg.specs.Asked.{oids_in}
 use Rattle.git_msg.specs.Kept.{Kept}
 use Rattle.git_msg.specs.ResponseLines.{info_text}
@@ -12,7 +13,6 @@ use Rattle.git_host.specs.declared.sizes_answer.SizesPlace.TheVariants.{Header, 
 use Rattle.git_host.specs.declared.sizes_answer.SizesStep.{SizesStep}
 use Rattle.git_host.specs.declared.sizes_answer.SizesStep.TheVariants.{Packet, AskSize, Whole as AllGiven}
 use Rattle.git_host.specs.declared.sizes_answer.SizesAnswer.{SizesAnswer}
-use Rattle.git_msg.specs.Arguments.{Arg}
 
 -- the line of an object
 abbrev pub size_line : Option ℕ → ObjectName → Pkt

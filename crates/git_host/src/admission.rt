@@ -8,8 +8,8 @@
 //! ```
 
 ghost use Rattle.std.specs.Prelude.{◌≡◌, ◌+◌, ◌*◌, ◌<◌, OnErr, length};
-ghost use Rattle.git_host.specs.Admissions.{reference_step, want_step};
 ghost use Rattle.git_msg.specs.Asked.{want_refs_in, wants_in};
+ghost use Rattle.git_host.specs.Admissions.{reference_step, want_step};
 
 use crate::fetch_answer::FetchAnswer;
 use git_msg::{Fetch, Memory};

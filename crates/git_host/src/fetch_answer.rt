@@ -15,12 +15,12 @@ ghost use Rattle.git_server.specs.FetchAnswers.{ack_packet};
 ghost use Rattle.git_host.specs.FetchPlaces.{Holds};
 ghost use Rattle.git_pkt.specs.Bands.{band_packet};
 ghost use Rattle.git_pkt.specs.Packets.{longest_payload, spelling_of};
-ghost use Rattle.git_msg.specs.Asked.{fetch, is_empty, only_negotiates, haves_in, want_refs_in, flag_among};
+ghost use Rattle.git_msg.specs.declared.flags.Flag.{Flag};
+ghost use Rattle.git_msg.specs.Asked.{is_empty, only_negotiates, haves_in, want_refs_in, flag_among};
 ghost use Rattle.git_server.specs.FetchAnswers.{negotiates};
 ghost use Rattle.git_server.specs.Objects.{object_of};
 ghost use Rattle.git_host.specs.FetchFacts.{may_have};
 ghost use Rattle.git_host.specs.FetchPlaces.{after_boundary, after_haves, place_by};
-ghost use Rattle.git_msg.specs.declared.flags.Flag.{Flag};
 
 use git_msg::{Boundary, Fetch, WantedRef, put_ack, put_boundary, put_line, put_wanted};
 use git_names::{Format, Oid};
@@ -140,7 +140,7 @@ impl<A: Allocator + Copy> FetchAnswer<A> {
         Self::begin(request, wanted, format)
     }
 
-    // The same, where the caller knows how many objects there are by what was reported.
+    /// The same, where the caller knows how many objects there are by what was reported.
     pub(crate) fn begin(request: Fetch<A>, wanted: Vec<Oid, A>, format: Format) -> FetchAnswer<A>
         ensures request { request_of result ≡ request }
         ensures format { format_of result ≡ format }
@@ -383,7 +383,7 @@ impl<A: Allocator + Copy> FetchAnswer<A> {
         true
     }
 
-    // Whether something is asked that comes before the pack.
+    /// Whether something is asked that comes before the pack.
     pub(crate) fn asks_before_pack(&self) -> bool
         ensures { result ≡ is_before_pack (step_of self.now) }
     {

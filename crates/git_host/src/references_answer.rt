@@ -3,6 +3,7 @@
 
 ghost use Rattle.std.specs.Prelude.{◌≡◌, ◌≤◌, ℕ, ◌∷◌, ◌++◌, Err, List, length};
 ghost use Rattle.git_names.specs.RefName.{IsRefName};
+ghost use Rattle.git_msg.specs.Asked.{peel_in, ref_prefixes_in, symrefs_in};
 ghost use Rattle.git_msg.specs.Memory.{HasRefused};
 ghost use Rattle.git_msg.specs.Prefixes.{IsOrdered, is_shown};
 ghost use Rattle.git_server.specs.Answers.{reference_packet, unborn_packet};
@@ -58,7 +59,7 @@ pub struct ReferencesAnswer<A: Allocator + Copy> {
 }
 
 impl<A: Allocator + Copy> ReferencesAnswer<A> {
-    ghost use Rattle.git_msg.specs.Asked.{ls_refs, ref_prefixes_in, peel_in, symrefs_in};
+    ghost use Rattle.git_msg.specs.Asked.{ls_refs};
     ghost use Rattle.git_host.specs.HostLookups.{references_asked};
     ghost use Rattle.git_host.specs.ReferencesPlaces.{Ends, KeepsAs, Reports, ReportsUnborn, Starts};
     ghost use Rattle.git_host.specs.ReferencesPlaces.{format_of, last_reported, peel_of, refuses_head, symrefs_of};

@@ -113,7 +113,7 @@ pub enum HostStep {
     Ended(Outcome),
 }
 
-// A report whose packet is to be sent, if it was asked for.
+/// A report whose packet is to be sent, if it was asked for.
 pub(crate) fn packet_where(asked: bool) -> HostReported
     ensures { result ≡ packet_where asked }
 {
@@ -123,7 +123,7 @@ pub(crate) fn packet_where(asked: bool) -> HostReported
     HostReported::Packet
 }
 
-// A report that was taken, if it was asked for.
+/// A report that was taken, if it was asked for.
 pub(crate) fn taken_where(asked: bool) -> HostReported
     ensures { result ≡ taken_where asked }
 {

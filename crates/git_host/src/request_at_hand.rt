@@ -48,7 +48,7 @@ impl<'a, A: Allocator + Copy> RequestAtHand<'a, A> {
     }
 }
 
-// The request that is answered, until all was sent.
+/// The request that is answered, until all was sent.
 pub(crate) fn request_answered<A: Allocator + Copy>(
     answer: &HostAnswer<A>,
 ) -> Option<RequestAtHand<'_, A>>

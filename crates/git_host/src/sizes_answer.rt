@@ -82,7 +82,7 @@ impl<A: Allocator + Copy> SizesAnswer<A> {
         }
     }
 
-    // Whether a size is asked.
+    /// Whether a size is asked.
     pub(crate) fn asks(&self) -> bool
         ensures { Asks self.now result }
     {

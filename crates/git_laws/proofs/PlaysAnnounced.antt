@@ -16,10 +16,11 @@ use Rattle.git_msg.specs.Advertisement.{everything, noted_of, takes_command}
 use Rattle.git_msg.specs.Arguments.{Arg, IsInRange, IsNameIn, IsValue, with_id, is_offered, row, word_of}
 use Rattle.git_msg.specs.declared.flags.Flag.{Flag}
 use Rattle.git_msg.specs.declared.words.Word.{Word}
-use Rattle.git_msg.specs.declared.words.Word.TheVariants.{Flag as of_flag, Object as of_object, Text as of_text}
+use Rattle.git_msg.specs.declared.words.Word.TheVariants.{Flag as of_flag, Object as of_object, Text as of_text, Number as of_number}
 use Rattle.git_msg.specs.declared.words.TextWord.{TextWord}
+use Rattle.git_msg.specs.declared.words.NumberWord.{NumberWord}
 use Rattle.git_msg.specs.declared.words.ObjectWord.{ObjectWord}
-use Rattle.git_msg.specs.Asked.{Asked, HasValues, arguments_in, fetch, id_in, ls_refs, object_info}
+use Rattle.git_msg.specs.Asked.{Asked, HasValues, fetch, id_in, ls_refs, object_info}
 use Rattle.git_msg.specs.Machine.HeldRequest.{asked_of, format_of}
 use Rattle.git_msg.specs.Lines.{IsFormatMeant}
 use Rattle.git_msg.proofs.FoundParts.{All-filter_map}
@@ -81,6 +82,7 @@ offers_word : (format : Format) (word : Word) → (row word).offered (everything
 offers_word format (of_flag Flag.Size) = refl
 offers_word format (of_object ObjectWord.Want) = refl
 offers_word format (of_text TextWord.Filter) = refl
+offers_word format (of_number NumberWord.Deepen) = refl
 offers_word format word = refl
 
 pub offers_all : (format : Format) (arg : Arg) → is_offered (everything format) arg ≡ true

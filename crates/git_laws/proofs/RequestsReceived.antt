@@ -174,9 +174,11 @@ module _ (s : Setting) (writes_agent writes_format : Bool) (meant : IsFormatMean
       (lines_clear writes_agent writes_format format q) (sym (ap packets_of (whole_then s.offer s.limit front more gs r kept a whole)) ∙ e ∙ apart) in
       let own : packets_of front ≡ lines_written writes_agent writes_format format q =
       rw (a.whole, map-append (λ (g : Given). g.packet) a.front (a.last ∷ []), parts.0, a.ends) (sym (lines_end writes_agent writes_format format q)) in
-      let in_format : HasValues format q =
-      arguments_fit_in s.offer s.limit (command_asked q) written (arguments_in q) (capability_packets writes_agent writes_format format q) [] a.front a.lines
-      a.taken parts.0 in_written in
+      let in_format : HasValues format q = record {
+        allowed = arguments_fit_in s.offer s.limit (command_asked q) written (arguments_in q) (capability_packets writes_agent writes_format format q) []
+            a.front a.lines a.taken parts.0 in_written.allowed;
+        in_order = in_written.in_order;
+      } in
       (one_written s.offer writes_agent writes_format meant takes offers s.limit kept q r front in_format own a, in_format, parts.1)
 
   -- the requests read are those written, and their object names have the reader's format

@@ -1,5 +1,5 @@
 -- The values of requests that a server reads: object names have its format, whatever the format of the request.
-use Rattle.std.proofs.Common.{arith, ◌≡◌, ℕ, Bool, true, false, All, map, List, [], ◌∷◌, ◌++◌, refl, ◌∙◌}
+use Rattle.std.proofs.Common.{arith, ◌≡◌, ℕ, Bool, true, false, All, map, List, [], ◌∷◌, ◌++◌, refl, subst, sym, ◌∙◌}
 use Rattle.std.proofs.lemmas.Bool.{or_left, or_right}
 use Rattle.std.proofs.lemmas.List.Elements.{All-cons, All-head, All-nil, All-tail}
 use Rattle.git_names.specs.ObjectName.{IsObjectName, ObjectName, hex_of}
@@ -10,15 +10,15 @@ use Rattle.git_pkt.specs.Splits.{Given}
 use Rattle.git_pkt.proofs.Texts.{text_of-line_end}
 use Rattle.git_msg.specs.declared.arguments.Command.{Command}
 use Rattle.git_msg.specs.declared.offers.Offer.{Offer}
-use Rattle.git_msg.specs.Arguments.{Arg, HasArgument, IsInRange, IsNameIn, IsValue, with_id, word_of, written_text}
+use Rattle.git_msg.specs.Arguments.{Arg, HasArgument, IsInRange, IsNameIn, IsValue, line_of, with_id, word_of, written_text, written_value}
 use Rattle.git_msg.specs.declared.words.Word.TheVariants.{Object as of_object}
+use Rattle.git_msg.specs.declared.words.ObjectWord.{ObjectWord}
 use Rattle.git_msg.specs.Lines.{IsLineIn, Line, delimiter, has_delimiter, is_delimiter}
 use Rattle.git_msg.specs.Requests.{AreLines}
 use Rattle.git_msg.specs.WrittenRequest.{text_line}
 use Rattle.git_msg.proofs.LineLaws.{payload_argument}
 use Rattle.git_msg.proofs.LineLists.{delimiter_snoc}
-use Rattle.git_msg.proofs.RoundTrip.{written_conveys}
-use Rattle.git_msg.proofs.HeadWords.{one_value, one_word}
+use Rattle.git_msg.proofs.HeadWords.{one_value, one_word, written_is}
 use Rattle.git_msg.proofs.WrittenNames.{length-hex_of}
 use Rattle.git_laws.specs.AnnouncedAnswers.{packets_of}
 
@@ -33,21 +33,23 @@ name_fits Sha256 Sha256 id h (other, is) = h
 name_fits Sha1 Sha256 id h (other, is) = absurd (omega (arith, length-hex_of Sha1 id h, is.count))
 name_fits Sha256 Sha1 id h (other, is) = absurd (omega (arith, length-hex_of Sha256 id h, is.count))
 
--- so an argument that is read is allowed in a request of that format
+-- so the value of an argument stays allowed where it is read after the same word
 stays : (written read : Format) (arg other : Arg) → word_of arg ≡ word_of other → IsInRange written arg → HasArgument read (written_text arg) other
     → IsInRange read arg
-stays written read (with_id word id) (with_id of other) same fits conveys =
-    let words : word ≡ of = cc in
-    let value : conveys.value ≡ hex_of id =
-    one_value (of_object word) (written_text (with_id word id)) conveys.value (hex_of id) tt (rw words conveys.spelled) refl in
+stays written read (with_id word id) (with_id read_word other) same fits conveys =
+    let words : word ≡ read_word = cc in
+    let spelled : written_text (with_id word id) ≡ line_of (of_object word) conveys.value =
+    subst (λ (w : ObjectWord). written_text (with_id word id) ≡ line_of (of_object w) conveys.value) (sym words) conveys.spelled in
+    let value : conveys.value ≡ hex_of id = one_value (of_object word) (written_text (with_id word id)) conveys.value (hex_of id) tt spelled refl in
     name_fits written read id fits (other, rw value at conveys.states)
 stays written read (with_id word id) other same fits conveys = absurd (cc)
 stays written read arg other same fits conveys = fits
 
+-- and an argument that is read is allowed in a request of that format
 in_range : (written read : Format) (arg other : Arg) → IsInRange written arg → HasArgument read (written_text arg) other → IsInRange read arg
 in_range written read arg other value conveys =
-    let own = written_conveys written arg value in
-    stays written read arg other (one_word (written_text arg) (word_of arg) (word_of other) own.value conveys.value own.spelled conveys.spelled) value conveys
+    stays written read arg other (one_word (written_text arg) (word_of arg) (word_of other) (written_value arg) conveys.value (written_is arg) conveys.spelled)
+    value conveys
 
 -- ---- the lines of a request
 

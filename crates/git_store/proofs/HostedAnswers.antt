@@ -6,6 +6,7 @@ use Rattle.git_names.specs.ObjectName.{ObjectName}
 use Rattle.git_names.specs.declared.object_format.Format.{Format}
 use Rattle.git_pkt.specs.Packets.{Pkt}
 use Rattle.git_pkt.specs.Splits.{Given}
+use Rattle.git_msg.specs.Arguments.{Arg}
 use Rattle.git_msg.specs.Asked.{Asked, fetch, ls_refs, object_info, want_refs_in, wants_in}
 use Rattle.git_server.specs.Packs.{whole}
 use Rattle.git_msg.specs.WholeRequests.{AreRequests}
@@ -24,7 +25,6 @@ use Rattle.git_store.specs.HostedRepository.{AllOfRepository, AllReportedBy, End
 use Rattle.git_store.specs.HostedRepository.{IsReportedBy, over_repository}
 use Rattle.git_host.proofs.RepositoryFacts.{reported_answers}
 use Rattle.git_host.proofs.SizesMoves.{references_answer, sizes_answer}
-use Rattle.git_msg.specs.Arguments.{Arg}
 
 one_answer : (format : Format) (repo : Repository) (q : Asked) (f : Facts) (packets : List Pkt) → IsOfRepository repo q f
     → IsAnswerBy whole format q f packets → IsAnswer repo q packets

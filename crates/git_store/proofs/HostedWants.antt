@@ -2,7 +2,7 @@
 use Rattle.std.proofs.Common.{◌≡◌, ◌≢◌, ◌⊎◌, ℕ, ◌+◌, Bool, true, false, if◌then◌else◌, All, IfSome, List, [], ◌∷◌, ◌++◌, length, map, take, Option, Some, None}
 use Rattle.std.proofs.Common.{option_to_list, refl, sym, ap, ◌∙◌, append_assoc, append-nil, subst, inl, inr}
 use Rattle.std.specs.List.{cons_option, filter_map}
-use Rattle.std.proofs.lemmas.List.Elements.{All-append, All-cons, All-head, All-map, All-nil, All-tail}
+use Rattle.std.proofs.lemmas.List.Elements.{All-append, All-cons, All-head, All-map, All-nil, All-tail, filter_passes}
 use Rattle.git_names.specs.ObjectName.{ObjectName}
 use Rattle.git_names.specs.declared.object_format.Format.{Format}
 use Rattle.git_pkt.specs.Packets.{Pkt}
@@ -15,7 +15,10 @@ use Rattle.git_msg.specs.Admission.{AreAdmitted, IsAdmitted, IsBarred}
 use Rattle.git_msg.specs.Arguments.{Arg, with_id, with_text}
 use Rattle.git_msg.specs.declared.words.ObjectWord.{ObjectWord}
 use Rattle.git_msg.specs.declared.words.TextWord.{TextWord}
-use Rattle.git_msg.specs.Asked.{Asked, arguments_in, asked_by, fetch, id_in, ls_refs, object_info, want_refs_in, wants_in}
+use Rattle.git_msg.specs.declared.words.Word.{Word}
+use Rattle.git_msg.specs.declared.words.Word.TheVariants.{Object as of_object}
+use Rattle.git_msg.specs.Asked.{Asked, all_or_last, arguments_in, asked_by, counting, fetch, id_in, id_of, is_of, last_alone, last_counts, ls_refs}
+use Rattle.git_msg.specs.Asked.{object_info, of_word, want_refs_in, wants_in, written}
 use Rattle.git_msg.specs.declared.arguments.Command.{Command}
 use Rattle.git_msg.specs.declared.arguments.Command.TheVariants.{LsRefs, Fetch, ObjectInfo}
 use Rattle.git_msg.specs.Lines.{Line, argument_in, arguments_of}
@@ -25,6 +28,7 @@ use Rattle.git_msg.specs.Machine.RequestStreams.{AreAsked, IsOne}
 use Rattle.git_msg.proofs.LineLaws.{argument_payload}
 use Rattle.git_msg.proofs.LineLists.{arguments_snoc, lines_snoc}
 use Rattle.git_msg.proofs.WholeRequests.{last_request}
+use Rattle.git_msg.proofs.WrittenArguments.{by_value, found}
 use Rattle.git_server.specs.Admission.{HasAsked, barred, barred_ref}
 use Rattle.git_server.specs.Answers.{AllFit, error_packet, spelled}
 use Rattle.git_server.specs.Repository.{Repository, found_ref}
@@ -100,9 +104,28 @@ refuses_reference repo (with_id ObjectWord.Want id) kind is had = absurd (barred
 refuses_reference repo (with_text TextWord.WantRef name) kind is had = barred_name (found_ref repo.refs name) kind is
 refuses_reference repo arg kind is had = absurd (cc)
 
-wants_among : (q : List Arg) (c : Command) (args : List Arg) → fetch q ≡ asked_by c args → (wants_in q) ≡ filter_map (id_in ObjectWord.Want) args
+-- what counts of a word's arguments has the word
+own_last : (word : Word) (args : List Arg) → All (λ arg. is_of word arg ≡ true) args → All (λ arg. is_of word arg ≡ true) (last_alone args)
+own_last word [] all = all
+own_last word (arg ∷ []) all = all
+own_last word (arg ∷ next ∷ args) all = own_last word (next ∷ args) (All-tail (λ (x : Arg). is_of word x ≡ true) arg (next ∷ args) all)
+
+own_counting : (word : Word) (last : Bool) (args : List Arg) → All (λ arg. is_of word arg ≡ true) args
+    → All (λ arg. is_of word arg ≡ true) (all_or_last last args)
+own_counting word true args all = own_last word args all
+own_counting word false args all = all
+
+-- so the objects that arguments want are those that they want as they are written
+wants_written : (args : List Arg) → wants_in (written args) ≡ wants_in args
+wants_written args =
+    by_value id_of (of_object ObjectWord.Want) (written args)
+    ∙ ap (filter_map id_of) (found (λ word. counting word args)
+    (λ word. own_counting word (last_counts word) (of_word word args) (filter_passes (is_of word) args)) (of_object ObjectWord.Want))
+    ∙ sym (by_value id_of (of_object ObjectWord.Want) args)
+
+wants_among : (q : List Arg) (c : Command) (args : List Arg) → fetch q ≡ asked_by c args → wants_in q ≡ wants_in args
 wants_among q LsRefs args same = absurd (cc)
-wants_among q Fetch args same = ap (λ (q : Asked). wants_in (arguments_in q)) same
+wants_among q Fetch args same = ap (λ (asked : Asked). wants_in (arguments_in asked)) same ∙ wants_written args
 wants_among q ObjectInfo args same = absurd (cc)
 
 name_at_line : (repo : Repository) (kind : Kind) (q : Asked) (f : Facts) (c : Command) (args : List Arg) (arg : Arg) (name : Kind)

@@ -7,6 +7,7 @@ use Rattle.git_names.specs.ObjectName.{ObjectName}
 use Rattle.git_names.specs.declared.object_format.Format.{Format}
 use Rattle.git_pkt.specs.Packets.{Pkt}
 use Rattle.git_msg.specs.declared.requests.Request.{Request}
+use Rattle.git_msg.specs.Arguments.{Arg}
 use Rattle.git_msg.specs.Asked.{Asked, fetch, ls_refs, object_info, only_negotiates, haves_in, oids_in, want_refs_in, wants_in}
 use Rattle.git_msg.specs.Machine.HeldRequest.{asked_of}
 use Rattle.git_server.specs.FetchAnswers.{is_ready_for, negotiates}
@@ -52,7 +53,6 @@ use Rattle.git_host.proofs.FetchMoves.{item_there}
 use Rattle.git_host.proofs.HostAnswerMoves.{none_needed}
 use Rattle.git_store.proofs.RepositoryReports.{FetchSoFar, SoFar, front_all, one_have, one_line, one_part, one_ready, one_reference, one_size}
 use Rattle.git_store.proofs.RepositoryReports.{one_want, one_want_ref}
-use Rattle.git_msg.specs.Arguments.{Arg}
 
 -- ---- the reply to what an answer needs
 

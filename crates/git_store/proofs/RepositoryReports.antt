@@ -5,6 +5,7 @@ use Rattle.std.specs.Option.{ForSome, option_map}
 use Rattle.std.proofs.lemmas.Option.{slice_get-map, slice_get_cases}
 use Rattle.git_names.specs.ObjectName.{ObjectName}
 use Rattle.git_msg.specs.declared.Boundary.{Boundary}
+use Rattle.git_msg.specs.Arguments.{Arg}
 use Rattle.git_msg.specs.Asked.{Asked, fetch, ls_refs, object_info, haves_in, oids_in, want_refs_in, wants_in}
 use Rattle.git_server.specs.Repository.{Entry, IsRising, Repository, found_ref}
 use Rattle.git_server.proofs.FoundReference.{found_is}
@@ -25,7 +26,6 @@ use Rattle.git_host.specs.declared.report.Need.TheVariants.{Boundary as NeedBoun
 use Rattle.git_host.specs.declared.report.Report.{Report}
 use Rattle.git_host.specs.declared.report.Report.TheVariants.{Want, WantRef, Have, Ready, Boundary as BoundaryLine, BoundaryEnd, Pack, PackEnd}
 use Rattle.git_host.specs.declared.report.Report.TheVariants.{Reference, Unborn, ReferencesEnd, Size}
-use Rattle.git_msg.specs.Arguments.{Arg}
 
 -- ---- fronts of a list
 

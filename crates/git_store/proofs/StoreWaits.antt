@@ -6,6 +6,7 @@ use Rattle.std.proofs.Props.{props}
 use Rattle.std.proofs.Math.Logic.{∥∥₁_elim, ∥∥₁_map}
 use Rattle.std.proofs.lemmas.Option.{slice_get_cases}
 use Rattle.git_pkt.specs.Packets.{Pkt}
+use Rattle.git_msg.specs.Arguments.{Arg}
 use Rattle.git_msg.specs.Asked.{Asked, fetch, ls_refs, object_info, only_negotiates, haves_in, oids_in, want_refs_in, wants_in}
 use Rattle.git_server.specs.declared.outcome.Outcome.{Outcome}
 use Rattle.git_msg.specs.declared.streams.RequestStream.{RequestStream}
@@ -36,7 +37,6 @@ use Rattle.git_host.specs.declared.report.HostStep.TheVariants as Step
 use Rattle.git_host.specs.declared.report.Need.{Need}
 use Rattle.git_host.specs.declared.report.Need.TheVariants as Needs
 use Rattle.git_store.proofs.StoreSteps.{any_moves}
-use Rattle.git_msg.specs.Arguments.{Arg}
 
 -- ---- by the phase
 

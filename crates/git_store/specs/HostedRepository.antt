@@ -6,6 +6,7 @@ use Rattle.git_pkt.specs.declared.fault.Fault.{Fault}
 use Rattle.git_pkt.specs.declared.fault.Kind.{Kind}
 use Rattle.git_pkt.specs.declared.fault.Kind.TheVariants.{UnknownRef}
 use Rattle.git_msg.specs.Admission.{IsUnbarred}
+use Rattle.git_msg.specs.Arguments.{Arg}
 use Rattle.git_msg.specs.Asked.{Asked, fetch, ls_refs, object_info, oids_in, want_refs_in, wants_in}
 use Rattle.git_msg.specs.Machine.RequestStreams.{AreAsked}
 use Rattle.git_server.specs.Admission.{barred}
@@ -18,7 +19,6 @@ use Rattle.git_server.specs.declared.outcome.Outcome.TheVariants.{Flush, Closed,
 use Rattle.git_host.specs.Admissions.{AdmissionFacts, IsRefusedBy}
 use Rattle.git_host.specs.HostSessions.{AtLast, Facts, HostSetting, IsCutShort, IsFront, of_fetch, of_references, of_sizes}
 use Rattle.git_host.specs.RepositoryFacts.{AreOfRepository}
-use Rattle.git_msg.specs.Arguments.{Arg}
 
 -- what was reported for the request is what the repository answers
 abbrev pub IsOfRepository : Repository → Asked → Facts → Type 0

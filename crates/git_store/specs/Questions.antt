@@ -5,6 +5,7 @@ use Rattle.git_names.specs.ObjectName.{ObjectName}
 use Rattle.git_names.specs.NameBytes.{name_bytes}
 use Rattle.git_names.specs.RefName.{IsRefName}
 use Rattle.git_msg.specs.declared.Boundary.{Boundary}
+use Rattle.git_msg.specs.Arguments.{Arg}
 use Rattle.git_msg.specs.Asked.{Asked, arguments_in, fetch, ls_refs, haves_in, oids_in, want_refs_in, wants_in}
 use Rattle.git_server.specs.Repository.{Entry}
 use Rattle.git_store.specs.declared.store.Part.{Part}
@@ -17,7 +18,6 @@ use Rattle.git_host.specs.declared.report.Need.TheVariants.{Boundary as NeedBoun
 use Rattle.git_host.specs.declared.report.Report.{Report}
 use Rattle.git_host.specs.declared.report.Report.TheVariants.{Want, WantRef, Have, Ready, Boundary as BoundaryLine, BoundaryEnd, Pack, Progress}
 use Rattle.git_host.specs.declared.report.Report.TheVariants.{PackEnd, Reference, Unborn, ReferencesEnd, Size}
-use Rattle.git_msg.specs.Arguments.{Arg}
 
 -- what a store is asked: whether the client may have the object, the object of the reference, whether it has the object, whether it is ready
 -- to send a pack, the next line of the boundary, the next of the pack, the next of the references, and the size of the object

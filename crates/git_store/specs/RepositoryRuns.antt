@@ -13,7 +13,6 @@ use Rattle.git_store.specs.RepoReplies.{BeginsAnew, RepliesAs, answers_of}
 use Rattle.git_store.specs.StoreMoves.{AllMade, Move, facts_after, used_in}
 use Rattle.git_host.specs.declared.host_server.HostServer.{HostServer}
 use Rattle.git_store.specs.declared.repo_store.RepoStore.{RepoStore}
-use Rattle.git_msg.specs.Arguments.{Arg}
 
 -- whether the store received the last request, where these facts begin with bytes that were used: not one that has just come
 abbrev pub received_after : Bool → List Facts → Bool

@@ -25,7 +25,7 @@ pub struct Hosted<S, A: Allocator + Copy> {
     ghost session: { ∥ IsOfAHost server ∥₁ },
 }
 
-// What a server over its store does next.
+/// What a server over its store does next.
 #[derive(Clone, Copy, Debug)]
 pub(crate) enum Turn {
     Packet,
@@ -76,14 +76,14 @@ impl<S: Store, A: Allocator + Copy> Hosted<S, A> {
         self.server.outcome()
     }
 
-    // The bytes of the packet that was sent last.
+    /// The bytes of the packet that was sent last.
     pub(crate) fn given(&self) -> &[u8]
         ensures { result.now ≡ bytes_of (server_of self.now) }
     {
         self.server.packet()
     }
 
-    // Goes on to the next packet, by as many questions as that takes.
+    /// Goes on to the next packet, by as many questions as that takes.
     pub(crate) fn go_on(&mut self) -> Turn
         ensures packet { result ≡ Turn.Packet
             → Reaches S.begins S.replies [] (bytes_of (server_of self.new)) (server_of self.old) (store_of self.old) (server_of self.new) (store_of self.new) }
@@ -127,7 +127,7 @@ impl<S: Store, A: Allocator + Copy> Hosted<S, A> {
         }
     }
 
-    // The input ends here.
+    /// The input ends here.
     pub(crate) fn end(&mut self)
         requires { reads_on (server_of self.old) ≡ true }
         ensures closes { ClosesHost (server_of self.old) true (server_of self.new) }
@@ -145,7 +145,7 @@ impl<S: Store, A: Memory + Copy> Hosted<S, A> {
     ghost use Rattle.git_store.specs.Hosted.{server_of, store_of};
     ghost use Rattle.git_store.specs.StoreMoves.{Reaches};
 
-    // Takes bytes of the input, and returns how many were used.
+    /// Takes bytes of the input, and returns how many were used.
     pub(crate) fn take(&mut self, chunk: &[u8]) -> usize
         requires { reads_on (server_of self.old) ≡ true }
         ensures used { result ≤ length chunk.now }

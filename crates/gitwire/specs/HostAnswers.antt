@@ -13,6 +13,7 @@ use Rattle.git_msg.specs.Asked.{Asked, arguments_in, command_asked}
 use Rattle.git_msg.specs.Checks.{Check, Refuses}
 use Rattle.git_msg.specs.References.{IsMaybeObjectName}
 use Rattle.git_msg.specs.declared.offers.Offer.{Offer}
+use Rattle.git_msg.specs.declared.words.Word.{Word}
 use Rattle.git_server.specs.Repository.{Entry}
 use Rattle.git_server.specs.declared.outcome.Outcome.{Outcome}
 use Rattle.git_server.specs.declared.outcome.Outcome.TheVariants.{Flush, Closed, Refused}
@@ -34,7 +35,6 @@ use Rattle.gitwire.specs.WrittenForC.{boundary_of, given, object_name_check, ref
 use Rattle.gitwire.specs.declared.answer.GitwireAnswer.{GitwireAnswer}
 use Rattle.gitwire.specs.declared.answer.What.TheVariants as What
 use Rattle.gitwire.specs.declared.host_texts.Unread.{Unread}
-use Rattle.git_msg.specs.declared.words.Word.{Word}
 
 -- ---- a session begins
 

@@ -1,4 +1,4 @@
-use Rattle.std.proofs.Common.{ℕ, List, Some, refl, ap}
+use Rattle.std.proofs.Common.{Some, refl, ap}
 use Rattle.git_host.specs.WrittenDigits.{SpellsId}
 use Rattle.git_host.proofs.reference_texts.check_attributes.Goals as goal
 

@@ -1,5 +1,7 @@
-use Rattle.std.proofs.Common.{rules, ◌≡◌, ◌++◌, ◌∷◌, [], ◌∙◌, ap, codes, refl, subst, sym, Bool, List}
+use Rattle.std.proofs.Common.{rules, ◌≡◌, ◌++◌, ◌∷◌, [], ◌∙◌, ap, codes, refl, subst, sym, Bool, true, false, List}
 use Rattle.git_names.specs.ObjectName.{ObjectName}
+use Rattle.git_msg.specs.declared.Boundary.{Boundary}
+use Rattle.git_msg.specs.Asked.{shallows_in}
 use Rattle.git_msg.specs.WrittenRequest.{text_line}
 use Rattle.git_msg.specs.ResponseLines.{boundary_text}
 use Rattle.git_server.specs.FetchAnswers.{boundary_packet}
@@ -9,14 +11,17 @@ use Rattle.git_host.specs.declared.fetch_answer.Place.{Place}
 use Rattle.git_host.specs.declared.fetch_answer.Place.TheVariants.{Shallow}
 use Rattle.git_host.proofs.FetchMoves.{after_first_line, after_line, line_held, line_sound, may_have_it, may_not_have}
 use Rattle.git_host.proofs.fetch_answer.FetchAnswer.boundary.Goals as goal
-use Rattle.git_msg.specs.Asked.{shallows_in}
+
+-- what the test of these commits shows of the request's own
+of_request : (ids shallows : List ObjectName) (line : Boundary) (tested is : Bool) → ids ≡ shallows → tested ≡ may_have ids line → tested ≡ is
+    → may_have shallows line ≡ is
+of_request ids shallows line tested is same test answer = ap (λ (l : List ObjectName). may_have l line) (sym same) ∙ sym test ∙ answer
 
 pub returns-then-not-may_have-clause-reported : goal.returns-then-not-may_have-clause-reported
-returns-then-not-may_have-clause-reported g c = (
-  refl,
-  may_not_have (shallows_in c.args.self.now.request.asked) c.args.line (ap (λ (ids : List ObjectName). may_have ids c.args.line) (sym c.shallows.ensures)
-      ∙ sym c.may_have.ensures ∙ c.if-not-may_have.true),
-)
+returns-then-not-may_have-clause-reported g c =
+    let shallows = shallows_in c.args.self.now.request.asked in
+    let line = c.args.line in
+    (refl, may_not_have shallows line (of_request _ shallows line _ false c.shallows.ensures c.may_have.ensures c.if-not-may_have.true))
 
 pub returns-then-any-clause-reported : goal.returns-then-any-clause-reported
 returns-then-any-clause-reported g c t given h =
@@ -26,7 +31,7 @@ returns-then-any-clause-reported g c t given h =
     let at = subst (λ (p : Place). StandsAt p q t given) c.in-Shallow.is h.stands in
     let more = subst (λ (b : Bool). StandsAt (Shallow b) q t given) c.if-any.true at in
     let was = c.in-Shallow.is ∙ ap Shallow c.if-any.true in
-    let known = ap (λ (ids : List ObjectName). may_have ids line) (sym c.shallows.ensures) ∙ sym c.may_have.ensures ∙ c.if-not-may_have.false in
+    let known = of_request _ (shallows_in q) line _ true c.shallows.ensures c.may_have.ensures c.if-not-may_have.false in
     let same : c.format.result ≡ old.format = search rules in
     let of_format = sym (c.format.ensures.value ∙ ap (λ (id : ObjectName). id.format) c.commit_of.ensures) ∙ same in
     record {
@@ -48,7 +53,7 @@ returns-clause-reported g c t given h =
     let line = c.args.line in
     let at = subst (λ (p : Place). StandsAt p q t given) c.in-Shallow.is h.stands in
     let first = subst (λ (b : Bool). StandsAt (Shallow b) q t given) c.if-any.false at in
-    let known = ap (λ (ids : List ObjectName). may_have ids line) (sym c.shallows.ensures) ∙ sym c.may_have.ensures ∙ c.if-not-may_have.false in
+    let known = of_request _ (shallows_in q) line _ true c.shallows.ensures c.may_have.ensures c.if-not-may_have.false in
     let same : c.format.result ≡ old.format = search rules in
     let of_format = sym (c.format.ensures.value ∙ ap (λ (id : ObjectName). id.format) c.commit_of.ensures) ∙ same in
     record {

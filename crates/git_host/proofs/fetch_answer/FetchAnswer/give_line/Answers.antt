@@ -1,6 +1,7 @@
 use Rattle.std.proofs.Common.{arith, List, slice_get, codes, refl, sym, ap, ◌∙◌, subst}
 use Rattle.git_names.specs.ObjectName.{ObjectName}
 use Rattle.git_pkt.specs.Packets.{delim}
+use Rattle.git_msg.specs.Asked.{want_refs_in}
 use Rattle.git_msg.specs.WrittenRequest.{text_line}
 use Rattle.git_msg.specs.ResponseLines.{boundary_text, wanted_of, wanted_text}
 use Rattle.git_server.specs.Packs.{packfile_header}
@@ -10,7 +11,6 @@ use Rattle.git_host.specs.declared.fetch_answer.Place.{Place}
 use Rattle.git_host.proofs.FetchMoves.{after_all_wanted, after_pack_header, after_shallow_line, after_wanted}
 use Rattle.git_host.proofs.FetchMoves.{after_wanted_header, item_there, line_held}
 use Rattle.git_host.proofs.fetch_answer.FetchAnswer.give_line.Goals as goal
-use Rattle.git_msg.specs.Asked.{want_refs_in}
 
 pub returns-in-ShallowLine : goal.returns-in-ShallowLine
 returns-in-ShallowLine g c t given h =

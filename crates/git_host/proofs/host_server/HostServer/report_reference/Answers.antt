@@ -1,13 +1,11 @@
-use Rattle.std.proofs.Common.{arith, ◌≡◌, Bool, ℕ, List, Option, refl, rules, sym, ap, subst, ◌∙◌}
+use Rattle.std.proofs.Common.{arith, ◌≡◌, Bool, refl, rules, sym, ap, subst, ◌∙◌}
 use Rattle.std.specs.Option.{option_copied}
 use Rattle.git_pkt.specs.Packets.{spelling_of}
 use Rattle.git_server.specs.Answers.{reference_packet}
-use Rattle.git_server.specs.Repository.{IsNamed}
 use Rattle.git_host.specs.HostAnswers.{asks_peel, asks_symrefs}
 use Rattle.git_host.specs.HostServer.{fault_in}
 use Rattle.git_host.specs.ReferenceTexts.{AreAttributes, FitLine, Texts, texts_line, texts_of}
 use Rattle.git_host.specs.WrittenDigits.{SpellsId}
-use Rattle.git_host.specs.declared.host_server.HostServer.{HostServer}
 use Rattle.git_host.specs.declared.host_server.Phase.{Phase}
 use Rattle.git_host.specs.declared.host_server.Phase.TheVariants.{Answering}
 use Rattle.git_host.specs.declared.report.HostReported.TheVariants.{OutOfMemory, Packet}

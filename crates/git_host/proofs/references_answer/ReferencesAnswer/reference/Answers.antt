@@ -1,5 +1,6 @@
 use Rattle.std.proofs.Common.{◌≡◌, [], ◌∷◌, ◌++◌, Some, refl, sym, subst, ◌∙◌, true, false}
 use Rattle.git_pkt.specs.Packets.{Pkt}
+use Rattle.git_msg.specs.Asked.{peel_in, symrefs_in}
 use Rattle.git_server.specs.Answers.{reference_packet}
 use Rattle.git_host.specs.FetchPlaces.{Holds}
 use Rattle.git_host.specs.LastNames.{last_name}
@@ -8,7 +9,6 @@ use Rattle.git_host.specs.declared.references_answer.ReferencesPlace.{References
 use Rattle.git_host.proofs.ReferencesMoves.{after_hidden, after_shown, entries_of, head_allowed, one_more_sound, ordered_alike, packet_alike, shown_alike}
 use Rattle.git_host.proofs.ReferencesMoves.{stands_after, unsound_format, unsound_head, unsound_order}
 use Rattle.git_host.proofs.references_answer.ReferencesAnswer.reference.Goals as goal
-use Rattle.git_msg.specs.Asked.{peel_in, symrefs_in}
 
 true_false : true ≡ false → ⊥
 true_false e = cc

@@ -1,7 +1,8 @@
 use Rattle.std.proofs.Common.{◌≡◌, ℕ, List, [], ◌∷◌, ◌++◌, Option, Some, refl, sym, ap, subst, ◌∙◌, rules, tests}
 use Rattle.git_pkt.specs.Packets.{Pkt, spelling_of}
+use Rattle.git_msg.specs.Asked.{peel_in, ref_prefixes_in, symrefs_in}
 use Rattle.git_server.specs.Answers.{is_shown, reference_packet}
-use Rattle.git_server.specs.Repository.{Entry, IsNamed, IsOfFormat}
+use Rattle.git_server.specs.Repository.{IsNamed, IsOfFormat}
 use Rattle.git_names.specs.declared.object_format.Format.{Format}
 use Rattle.git_host.specs.FetchPlaces.{Holds}
 use Rattle.git_host.specs.LastNames.{last_name}
@@ -13,7 +14,6 @@ use Rattle.git_host.proofs.EntryLines.{entry_held, named_sound}
 use Rattle.git_host.proofs.ReferencesMoves.{after_hidden, after_shown, entries_of, head_allowed, ordered_alike, packet_alike, shown_alike}
 use Rattle.git_host.proofs.ReferencesMoves.{stands_after, unsound_head, unsound_order}
 use Rattle.git_host.proofs.references_answer.ReferencesAnswer.take_reference.Goals as goal
-use Rattle.git_msg.specs.Asked.{peel_in, ref_prefixes_in, symrefs_in}
 
 pub returns-then-is_second_head : goal.returns-then-is_second_head
 returns-then-is_second_head g c =

@@ -1,7 +1,4 @@
-use Rattle.std.proofs.Common.{refl, sym, subst, ℕ, ◌∷◌, [], ◌∙◌}
-use Rattle.git_host.specs.HostServer.{bytes_of}
-use Rattle.git_store.specs.Hosted.{server_of}
-use Rattle.git_store.proofs.StoreRunLemmas.{by_packet, by_quiet, gives_first}
+use Rattle.git_store.proofs.StoreRunLemmas.{by_quiet, gives_first}
 use Rattle.git_store.proofs.machine.HostedMachine.next.Goals as goal
 
 pub returns-in-Packet-clause-part : goal.returns-in-Packet-clause-part
