@@ -49,3 +49,8 @@ pub fn add_have<A: Allocator + Copy>(request: &mut Request<A>, id: Oid) -> Resul
 pub fn bytes_kept<A: Allocator + Copy>(request: &Request<A>) -> u32 {
     request.kept()
 }
+
+/// The `filter` at this index.
+pub fn filter_at<A: Allocator + Copy>(request: &Request<A>, i: usize) -> Option<&[u8]> {
+    request.arguments().text(TextWord::Filter, i)
+}

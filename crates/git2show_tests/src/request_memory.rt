@@ -1,6 +1,6 @@
 //! Memory that runs out at each allocation in turn.
 
-use crate::adding::{add_filter, add_prefix, add_want, bytes_kept, new_request};
+use crate::adding::{add_filter, add_prefix, add_want, bytes_kept, filter_at, new_request};
 use crate::expecting::expect;
 use crate::servers::object;
 use git_msg::{
@@ -74,17 +74,17 @@ const FILTERS: [&[u8]; 2] = [b"blob:limit=8", b"tree:100"];
 fn filters_within(rt: &impl Abort, alloc: Global, size: usize) -> Result<u32, AllocError> {
     let heap = LocalHeap::new(alloc, size)?;
     let mut request = new_request(&heap, Command::Fetch, Limits { args: 1000 });
-    expect(rt, &request.add(&Argument::Flag(Flag::WaitForDone)), &Ok(()));
+    expect(
+        rt,
+        &request.add(&Argument::Flag(Flag::WaitForDone)),
+        &Ok(()),
+    );
     let mut kept = 0u32;
     for spec in FILTERS {
         let before = bytes_kept(&request);
         match add_filter(&mut request, spec) {
             Ok(()) => {
-                expect(
-                    rt,
-                    &request.arguments().text(TextWord::Filter, kept as usize),
-                    &Some(spec),
-                );
+                expect(rt, &filter_at(&request, kept as usize), &Some(spec));
                 kept = kept.saturating_add(1);
             }
             Err(kind) => {
@@ -94,11 +94,7 @@ fn filters_within(rt: &impl Abort, alloc: Global, size: usize) -> Result<u32, Al
             }
         }
     }
-    expect(
-        rt,
-        &request.arguments().text(TextWord::Filter, kept as usize),
-        &None,
-    );
+    expect(rt, &filter_at(&request, kept as usize), &None);
     assert!(rt; request.arguments().has(Flag::WaitForDone));
     Ok(kept)
 }
@@ -120,22 +116,10 @@ fn filters_are_kept_in_order(rt: HostRuntime) -> Result<(), AllocError> {
     }
     // Each counts with the seven bytes of its word and the space, and a repetition counts again.
     expect(&rt, &bytes_kept(&request), &53);
-    expect(
-        &rt,
-        &request.arguments().text(TextWord::Filter, 0),
-        &Some(FILTERS[0]),
-    );
-    expect(
-        &rt,
-        &request.arguments().text(TextWord::Filter, 1),
-        &Some(FILTERS[1]),
-    );
-    expect(
-        &rt,
-        &request.arguments().text(TextWord::Filter, 2),
-        &Some(FILTERS[0]),
-    );
-    expect(&rt, &request.arguments().text(TextWord::Filter, 3), &None);
+    expect(&rt, &filter_at(&request, 0), &Some(FILTERS[0]));
+    expect(&rt, &filter_at(&request, 1), &Some(FILTERS[1]));
+    expect(&rt, &filter_at(&request, 2), &Some(FILTERS[0]));
+    expect(&rt, &filter_at(&request, 3), &None);
     expect(&rt, &add_filter(&mut request, b""), &Err(Kind::BadLine));
     expect(
         &rt,
@@ -143,7 +127,7 @@ fn filters_are_kept_in_order(rt: HostRuntime) -> Result<(), AllocError> {
         &Err(Kind::TooMuchKept),
     );
     expect(&rt, &bytes_kept(&request), &53);
-    expect(&rt, &request.arguments().text(TextWord::Filter, 3), &None);
+    expect(&rt, &filter_at(&request, 3), &None);
     Ok(())
 }
 

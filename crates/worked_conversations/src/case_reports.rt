@@ -47,29 +47,12 @@ fn question(alloc: Global, server: &HostServer<Global>, need: Need) -> Result<St
     let Some(request) = server.request() else {
         return Err(Trouble::Breaks("a host is asked without a request"));
     };
+    let arguments = request.arguments();
     match need {
-        Need::Want(at) => about_object(
-            alloc,
-            "want",
-            request.arguments().ids(ObjectWord::Want),
-            at,
-        ),
-        Need::WantRef(at) => about_reference(
-            alloc,
-            request.arguments().text(TextWord::WantRef, at),
-        ),
-        Need::Have(at) => about_object(
-            alloc,
-            "have",
-            request.arguments().ids(ObjectWord::Have),
-            at,
-        ),
-        Need::Size(at) => about_object(
-            alloc,
-            "size",
-            request.arguments().ids(ObjectWord::ObjectId),
-            at,
-        ),
+        Need::Want(at) => about_object(alloc, "want", arguments.ids(ObjectWord::Want), at),
+        Need::WantRef(at) => about_reference(alloc, arguments.text(TextWord::WantRef, at)),
+        Need::Have(at) => about_object(alloc, "have", arguments.ids(ObjectWord::Have), at),
+        Need::Size(at) => about_object(alloc, "size", arguments.ids(ObjectWord::ObjectId), at),
         Need::Ready => Ok(String::from_str(alloc, "ready")?),
         Need::Boundary => Ok(String::from_str(alloc, "boundary")?),
         Need::Pack => Ok(String::from_str(alloc, "pack")?),

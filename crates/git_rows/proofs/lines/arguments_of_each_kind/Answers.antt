@@ -1,8 +1,9 @@
-use Rattle.std.proofs.Common.{[], codes, refl, arith, tt}
+use Rattle.std.proofs.Common.{[], ◌++◌, codes, refl, arith}
 use Rattle.git_rows.specs.Worked.{all_a}
 use Rattle.git_rows.proofs.NamesByComputing.{ref_by}
 use Rattle.git_rows.proofs.NumbersByComputing.{number_by}
 use Rattle.git_rows.proofs.ObjectNamesByComputing.{all_a_is_name}
+use Rattle.git_rows.proofs.TextsByComputing.{begins_otherwise}
 use Rattle.git_rows.proofs.lines.arguments_of_each_kind.Goals as goal
 
 pub returns-clause-object : goal.returns-clause-object
@@ -76,7 +77,8 @@ pub returns-clause-not_of_another_command : goal.returns-clause-not_of_another_c
 returns-clause-not_of_another_command c = λ h. let of = h.is_argument.0 in cc
 
 pub returns-clause-not_another_word : goal.returns-clause-not_another_word
-returns-clause-not_another_word c = λ h. let spelled = h.is_argument.1.spelled in cc
+returns-clause-not_another_word c =
+    λ h. begins_otherwise (codes "have ") (codes "want " ++ all_a) refl h.is_argument.1.value h.is_argument.1.spelled
 
 pub returns-clause-not_what_is_not_offered : goal.returns-clause-not_what_is_not_offered
 returns-clause-not_what_is_not_offered c = λ h. let offered = h.offered in cc

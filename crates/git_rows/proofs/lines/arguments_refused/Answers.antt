@@ -1,4 +1,4 @@
-use Rattle.std.proofs.Common.{[], codes, refl, arith, inl, inr, tt}
+use Rattle.std.proofs.Common.{[], codes, refl, arith, inl, inr}
 use Rattle.git_pkt.specs.declared.fault.Kind.TheVariants.{BadLine, BadNumber, NotAdvertised}
 use Rattle.git_msg.specs.Arguments.{IsArgumentFault, alone}
 use Rattle.git_msg.specs.declared.arguments.Command.TheVariants.{Fetch, LsRefs}
@@ -11,13 +11,16 @@ use Rattle.git_msg.proofs.HeadWords.{none_named}
 use Rattle.git_msg.proofs.Rows.{argument_or_fault, one_argument_fault}
 use Rattle.git_rows.specs.Worked.{offer_all}
 use Rattle.git_rows.proofs.NamesByComputing.{main_is_none}
+use Rattle.git_rows.proofs.TextsByComputing.{begins_otherwise}
 use Rattle.git_rows.proofs.lines.arguments_refused.Goals as goal
 
 pub returns-clause-of_another_command : goal.returns-clause-of_another_command
 returns-clause-of_another_command c = inl (inl (none_named LsRefs (codes "done") (λ of value h. cc), refl))
 
 pub returns-clause-without_a_space : goal.returns-clause-without_a_space
-returns-clause-without_a_space c = inl (inl (none_named Fetch (codes "deepen-not") (λ of value h. cc), refl))
+returns-clause-without_a_space c =
+    let otherwise = begins_otherwise (codes "deepen-not ") (codes "deepen-not") refl in
+    inl (inl (none_named Fetch (codes "deepen-not") (λ of value h. otherwise value h), refl))
 
 depth_of_zero : IsArgumentFault Fetch offer_all (codes "deepen 0") BadNumber
 depth_of_zero = inl (inr (record {
