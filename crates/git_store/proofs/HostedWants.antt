@@ -300,7 +300,7 @@ module _ (s : HostSetting) (repo : Repository) (failures : ℕ) (used : List ℕ
       let (bytes, later, cut, spells) = spelled_up_to 0 used (before ++ left) (first.more ++ asks.last ∷ []) []
       (subst (λ (gs : List Given). SpellsAll 0 used gs []) all_packets are.splits.spelled) in
       let line : Fault = record { kind = first.kind; offset = first.line.offset } in
-      let named = value_name repo first.is_barred.arg.word first.is_barred.arg.value first.kind first.is_barred.refuses in
+      let named = refusal_name repo first.is_barred.arg first.kind first.is_barred.refuses in
       let tail = lacking_tail fault.kind s.offer.format fault l.q l.f l.front repo lacks l.last in
       let none : (advertised s ++ l.answers) ++ [] ≡ advertised s ++ l.answers = append-nil (advertised s ++ l.answers) in
       record {

@@ -8,7 +8,7 @@ ghost use Rattle.gitwire.specs.Handles.{request_in};
 ghost use Rattle.gitwire.specs.Numbers.{command_number, format_number, item_words, numbered};
 ghost use Rattle.gitwire.specs.RequestAnswers.{AddsLine, AddsAnswers, EndsAnswers, Makes, MeanNoRequest, MeanRequest, PutsFrom};
 ghost use Rattle.gitwire.specs.Answers.{answering};
-ghost use Rattle.gitwire.specs.RequestAnswers.{is_set, announcing_number, announcing_result, announcing_which};
+ghost use Rattle.gitwire.specs.RequestAnswers.{is_set, announcing_result, announcing_which};
 
 use crate::answer::{GitwireAnswer, What};
 use crate::handles::{GitwireRequest, Holds, fill};
@@ -149,13 +149,6 @@ pub extern "C" fn gitwire_request_format(alloc: Global, request: &mut GitwireReq
     let answer = number_of_format(taken.inner.format());
     request.put(taken);
     answer
-}
-
-/// Reports a number of a request: `Done`, and `offset` is the number.
-pub(crate) fn announce_number(number: u64) -> GitwireAnswer
-    ensures { result ≡ announcing_number number }
-{
-    GitwireAnswer::of_packet(0, number, 0, What::Done)
 }
 
 /// Whether the request has the flag of this number, from `SYMREFS` to `WAIT_FOR_DONE`. For another number, and for a handle without a

@@ -4,12 +4,11 @@ ghost use Rattle.std.specs.Prelude.{◌≡◌};
 ghost use Rattle.std.specs.Option.{option_copied, option_map};
 ghost use Rattle.git_names.specs.ObjectName.{hex_of};
 ghost use Rattle.gitwire.specs.Numbers.{item_words, numbered};
-ghost use Rattle.gitwire.specs.RequestAnswers.{PutsFrom, PutsItem, announcing_which, is_set};
+ghost use Rattle.gitwire.specs.RequestAnswers.{PutsFrom, PutsItem, announcing_number, announcing_which, is_set};
 
 use crate::answer::{GitwireAnswer, What};
 use crate::buffers::fill;
 use crate::numbers::{flag_numbered, item_word, number_word};
-use crate::request::announce_number;
 use git_msg::{KeptArguments, Word};
 use git_names::Oid;
 use std::alloc::Global;
@@ -37,6 +36,13 @@ pub(crate) fn given_number(arguments: &KeptArguments<Global>, which: u32) -> Git
     }
 }
 
+/// Reports a number of a request: `Done`, and `offset` is the number.
+fn announce_number(number: u64) -> GitwireAnswer
+    ensures { result ≡ announcing_number number }
+{
+    GitwireAnswer::of_packet(0, number, 0, What::Done)
+}
+
 /// Writes the item at an index of the list of this number to the front of the buffer.
 pub(crate) fn put_item(
     arguments: &KeptArguments<Global>,
@@ -57,7 +63,7 @@ pub(crate) fn put_item(
 }
 
 /// Writes the text to the front of the buffer, or reports `Nothing` if there is none.
-pub(crate) fn put_text_if_any(text: Option<&[u8]>, buffer: &mut [u8]) -> GitwireAnswer
+fn put_text_if_any(text: Option<&[u8]>, buffer: &mut [u8]) -> GitwireAnswer
     ensures { PutsItem (option_copied text.entry) buffer.old result buffer.new }
 {
     match text {
@@ -67,7 +73,7 @@ pub(crate) fn put_text_if_any(text: Option<&[u8]>, buffer: &mut [u8]) -> Gitwire
 }
 
 /// Writes the digits of the object name to the front of the buffer, or reports `Nothing` if there is none.
-pub(crate) fn put_name_if_any(id: Option<&Oid>, buffer: &mut [u8]) -> GitwireAnswer
+fn put_name_if_any(id: Option<&Oid>, buffer: &mut [u8]) -> GitwireAnswer
     ensures { PutsItem (option_map hex_of (option_copied id.entry)) buffer.old result buffer.new }
 {
     let Some(id) = id else {
