@@ -1,7 +1,7 @@
 -- The values that the rows use.
 use Rattle.std.specs.Prelude.{ℕ, Bool, List, [], Option, ◌∷◌, ◌++◌, codes, map, replicate}
 use Rattle.git_msg.specs.Advertisement.{everything}
-use Rattle.git_msg.specs.Arguments.{Arg, with_id, with_text}
+use Rattle.git_msg.specs.Arguments.{Arg, alone, with_id, with_text}
 use Rattle.git_msg.specs.Asked.{where_asked}
 use Rattle.git_msg.specs.declared.flags.Flag.{Flag}
 use Rattle.git_msg.specs.declared.words.ObjectWord.{ObjectWord}
@@ -69,6 +69,10 @@ ls_refs_of prefixes = map (with_text TextWord.RefPrefix) prefixes
 -- what a fetch asks for, with these `want` lines, perhaps `done`, and no other line
 abbrev pub fetch_of : List ObjectName → Bool → List Arg
 fetch_of wants is_done = map (with_id ObjectWord.Want) wants ++ where_asked is_done Flag.Done
+
+-- what a request for the sizes of these objects asks for
+abbrev pub sizes_of : List ObjectName → List Arg
+sizes_of ids = alone Flag.Size ∷ map (with_id ObjectWord.ObjectId) ids
 
 -- a request for references, from the offset 0 on
 abbrev pub ls_refs_packets : List Given

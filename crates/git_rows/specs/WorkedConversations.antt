@@ -7,7 +7,7 @@ use Rattle.git_msg.specs.References.{Ref, reference_of}
 use Rattle.git_msg.specs.WrittenRequest.{text_line}
 use Rattle.git_names.specs.declared.object_format.Format.TheVariants.{Sha1}
 use Rattle.git_pkt.specs.Packets.{Pkt, flush}
-use Rattle.git_rows.specs.Worked.{all_a, fetch_of, ls_refs_of, name_a}
+use Rattle.git_rows.specs.Worked.{all_a, fetch_of, ls_refs_of, name_a, sizes_of}
 
 -- object names of SHA-1, and responses that end with a flush
 abbrev pub terms : Terms
@@ -25,7 +25,7 @@ abbrev pub asked_haves : List Asked
 asked_haves = fetch (fetch_of (name_a ∷ []) false) ∷ []
 
 abbrev pub asked_sizes : List Asked
-asked_sizes = object_info (record { size = true; oids = name_a ∷ [] }) ∷ []
+asked_sizes = object_info (sizes_of (name_a ∷ [])) ∷ []
 
 -- the reference that is received
 abbrev pub head_ref : Ref

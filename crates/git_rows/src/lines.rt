@@ -1,14 +1,14 @@
 //! Lines: capabilities, the arguments of requests, and the lines of responses.
 
-ghost use Rattle.std.specs.Prelude.{◌≡◌, ◌≢◌, ◌++◌, ◌∷◌, [], Some, None, codes, decimal};
-ghost use Rattle.git_msg.specs.Advertisement.{everything, nothing};
+ghost use Rattle.std.specs.Prelude.{◌++◌, [], Some, None, codes};
+ghost use Rattle.git_msg.specs.Advertisement.{nothing};
 ghost use Rattle.git_msg.specs.Arguments.{IsArgumentFault, ReadsAs, alone, with_id, with_number, with_text};
 ghost use Rattle.git_msg.specs.declared.words.ObjectWord.{ObjectWord};
 ghost use Rattle.git_msg.specs.declared.words.TextWord.{TextWord};
 ghost use Rattle.git_msg.specs.declared.words.NumberWord.{NumberWord};
 ghost use Rattle.git_msg.specs.Capability.{IsCapability, IsNoCapability};
 ghost use Rattle.git_msg.specs.declared.arguments.Command.TheVariants.{Fetch, LsRefs, ObjectInfo};
-ghost use Rattle.git_msg.specs.declared.flags.Flag.TheVariants.{Done, Peel, Size, Unborn};
+ghost use Rattle.git_msg.specs.declared.flags.Flag.TheVariants.{Done, Peel, Unborn};
 ghost use Rattle.git_msg.specs.Numbers.{IsNumber};
 ghost use Rattle.git_msg.specs.References.{IsReferenceFault, IsReferenceLine, reference_of};
 ghost use Rattle.git_msg.specs.ResponseLines.{IsAckFault, IsAckLine, IsBoundaryFault, IsBoundaryLine, IsInfoFault, IsInfoLine};

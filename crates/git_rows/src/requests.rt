@@ -1,17 +1,15 @@
 //! Requests: packets that are one, and the first packet that is refused, with its error and its offset.
 
-ghost use Rattle.std.specs.Prelude.{◌++◌, ◌∷◌, [], codes, false, true};
-ghost use Rattle.git_msg.specs.Arguments.{alone, with_id};
+ghost use Rattle.std.specs.Prelude.{◌∷◌, [], codes, false, true};
 ghost use Rattle.git_msg.specs.Asked.{fetch, ls_refs};
-ghost use Rattle.git_msg.specs.Lines.{HasFault, IsLine, argument, command, delimiter};
+ghost use Rattle.git_msg.specs.Lines.{HasFault, command, delimiter};
 ghost use Rattle.git_msg.specs.Requests.{Asks, FirstFault, IsStop, WantsMemory};
 ghost use Rattle.git_msg.specs.WrittenRequest.{text_line};
 ghost use Rattle.git_msg.specs.declared.arguments.Command.TheVariants.{Fetch, LsRefs};
-ghost use Rattle.git_msg.specs.declared.flags.Flag.TheVariants.{Done};
 ghost use Rattle.git_pkt.specs.Packets.{delim, flush, resp_end};
 ghost use Rattle.git_pkt.specs.declared.fault.Kind.TheVariants.{NoWants, OutOfMemory, TooMuchKept, UnexpectedPacket, UnknownCommand};
 ghost use Rattle.git_pkt.specs.declared.fault.Kind.TheVariants.{BadCapability, NoCommand, NotAdvertised, RemoteError, TwoCommands, WrongFormat};
-ghost use Rattle.git_rows.specs.Worked.{all_a, at, fetch_done_packets, fetch_of, ls_refs_of, ls_refs_packets, name_a, no_want_packets, offer_all};
+ghost use Rattle.git_rows.specs.Worked.{at, fetch_done_packets, fetch_of, ls_refs_of, ls_refs_packets, name_a, no_want_packets, offer_all};
 ghost use Rattle.git_rows.specs.Worked.{three_argument_packets, want_alone_packets};
 
 /// A request for references without arguments.

@@ -1,10 +1,7 @@
 //! Sessions: what a server sends for the bytes that it used, and how a session ends.
 
 ghost use Rattle.std.specs.Prelude.{◌++◌, ◌∷◌, [], Some, codes, false, true};
-ghost use Rattle.git_msg.specs.Arguments.{alone, with_id};
 ghost use Rattle.git_msg.specs.Asked.{fetch, ls_refs, object_info};
-ghost use Rattle.git_msg.specs.declared.flags.Flag.{Flag};
-ghost use Rattle.git_msg.specs.declared.words.ObjectWord.{ObjectWord};
 ghost use Rattle.git_msg.specs.WrittenRequest.{text_line};
 ghost use Rattle.git_pkt.specs.Packets.{delim, flush, payload};
 ghost use Rattle.git_pkt.specs.declared.fault.Kind.TheVariants.{BadDigit, NotOurs, PackSource, Truncated, UnknownCommand};
@@ -12,7 +9,7 @@ ghost use Rattle.git_server.specs.Answers.{IsAnswer, IsAnswerAs};
 ghost use Rattle.git_server.specs.Packs.{broken};
 ghost use Rattle.git_server.specs.Sessions.{FirstMalformed, IsSession};
 ghost use Rattle.git_server.specs.declared.outcome.Outcome.TheVariants.{Closed, Flush, Refused};
-ghost use Rattle.git_rows.specs.Worked.{all_a, all_b, asked_with, fault_at, fetch_of, haves_of, name_a, name_b};
+ghost use Rattle.git_rows.specs.Worked.{all_a, all_b, asked_with, fault_at, fetch_of, haves_of, name_a, name_b, sizes_of};
 ghost use Rattle.git_rows.specs.WorkedSessions.{fetch_bytes, listed_bytes, ls_refs_bytes, repo, repo_where, setting};
 
 /// A session of a flush alone, and one of no bytes.
@@ -57,11 +54,11 @@ pub fn answers_about_references_and_objects()
     ensures targets_and_peeled { IsAnswer repo (ls_refs (asked_with true true []))
         (text_line (all_a ++ codes " HEAD symref-target:refs/x") ∷ text_line (all_b ++ codes " refs/tags/v1 peeled:" ++ all_a) ∷ flush ∷ []) }
     ensures below_a_prefix { IsAnswer repo (ls_refs (asked_with false false (codes "refs/" ∷ []))) (text_line (all_b ++ codes " refs/tags/v1") ∷ flush ∷ []) }
-    ensures sizes { IsAnswer repo (object_info (alone Flag.Size ∷ with_id ObjectWord.ObjectId name_a ∷ with_id ObjectWord.ObjectId name_b ∷ []))
+    ensures sizes { IsAnswer repo (object_info (sizes_of (name_a ∷ name_b ∷ [])))
         (text_line (codes "size") ∷ text_line (all_a ++ codes " 12") ∷ text_line (all_b ++ codes " ") ∷ flush ∷ []) }
     ensures not_all_below_a_prefix { ¬ IsAnswer repo (ls_refs (asked_with false false (codes "refs/" ∷ [])))
         (text_line (all_a ++ codes " HEAD") ∷ text_line (all_b ++ codes " refs/tags/v1") ∷ flush ∷ []) }
-    ensures not_without_a_flush { ¬ IsAnswer repo (object_info (alone Flag.Size ∷ [])) (text_line (codes "size") ∷ []) }
+    ensures not_without_a_flush { ¬ IsAnswer repo (object_info (sizes_of [])) (text_line (codes "size") ∷ []) }
     ensures never_broken_off { ¬ IsAnswerAs broken repo (ls_refs (asked_with false false [])) [] }
 {}
 
