@@ -1,5 +1,5 @@
 -- What a check results in, at each of its ends.
-use Rattle.std.proofs.Common.{arith, ◌≡◌, inl, inr, ◌⊎◌, ℕ, ◌+◌, ◌-◌, min, Bool, true, false, List, [], ◌∷◌, ◌++◌, length, Option, None, Some}
+use Rattle.std.proofs.Common.{arith, ◌≡◌, inl, inr, ◌⊎◌, ℕ, ◌+◌, ◌-◌, ◌||◌, IsTrue, min, Bool, true, false, List, [], ◌∷◌, ◌++◌, length, Option, None, Some}
 use Rattle.std.proofs.Common.{Result, Ok, Err, IfErr, refl, sym, subst, ap, ◌∙◌, append_assoc, append-nil}
 use Rattle.std.proofs.KnownBytes.{Consumes-nil, Consumes-trans}
 use Rattle.std.proofs.lemmas.List.Elements.{All-nil}
@@ -12,7 +12,7 @@ use Rattle.git_pkt.specs.declared.fault.Fault.{Fault}
 use Rattle.git_pkt.specs.declared.fault.Kind.TheVariants.{UnexpectedPacket}
 use Rattle.git_pkt.specs.declared.fault.RunFault.{RunFault}
 use Rattle.git_pkt.specs.declared.fault.RunFault.TheVariants.{ReadFault, WriteFault, ReadLimit, Refused}
-use Rattle.git_pkt.specs.Machine.Recorded.{has_ended, has_failed}
+use Rattle.git_pkt.specs.Machine.Recorded.{has_ended, has_failed, reads_of}
 use Rattle.git_pkt.specs.declared.recorded.Recorded.{Recorded}
 use Rattle.git_pkt.proofs.EngineLemmas.{written_then}
 use Rattle.git_pkt.proofs.Spelling.{none_begins_nothing}
@@ -36,7 +36,7 @@ use Rattle.git2show_lib.specs.Machine.JudgedRequests.{text_of}
 use Rattle.git2show_lib.specs.Machine.Noting.{IsLost}
 use Rattle.git2show_lib.specs.declared.judged_requests.JudgedRequests.{JudgedRequests}
 use Rattle.git2show_lib.specs.declared.noting.Noting.{Noting}
-use Rattle.git2show_lib.specs.Machine.CheckFaults.{run_fault, run_result, standing_of}
+use Rattle.git2show_lib.specs.Machine.CheckFaults.{AreSpent, run_fault, run_result, standing_of}
 use Rattle.git2show_lib.specs.Machine.CheckSteps.{Asking, ReceivesNoting, ReadsAll, ReadsNoMore, ReadsOn, ReadsRequest, ReadsTo, ReadsWhole, SeesEnd}
 use Rattle.git2show_lib.specs.Machine.CheckedStreams.{AllEnded, AreAllAsked, AreAnswered, AreReceived, AreOver, AreUnread, Begun, Checked, EndsAs}
 use Rattle.git2show_lib.specs.Machine.CheckedStreams.{Found, IsSieved, IsSoFar, Receives, SieveBreaksOff, SieveRefuses}
@@ -85,6 +85,15 @@ shown_as own place fault F W S same shown = at own (subst (λ (f : CheckFault). 
   at WriteFault shown = shown
   at ReadLimit shown = shown
   at (Refused fault) shown = tt
+
+-- what shows a fault of a run over the responses shows it of both streams, where no read of the requests failed
+pub shown_of_both : {Q R : Type 0} (requests : Recorded Q) (responses : Recorded R) (W : Type 0) (turns left : ℕ) (fault : RunFault)
+    → has_failed requests ≡ false → reads_of requests + left ≡ turns → IsShownBy (IsTrue (has_failed responses)) W (IsSpent responses left) fault
+    → IsShownBy (IsTrue (has_failed requests || has_failed responses)) W (AreSpent requests responses turns) fault
+shown_of_both requests responses W turns left ReadFault sound counts shown = rw sound shown
+shown_of_both requests responses W turns left WriteFault sound counts shown = shown
+shown_of_both requests responses W turns left ReadLimit sound counts shown = (omega (arith, counts, shown.reads), inr shown.open_ended)
+shown_of_both requests responses W turns left (Refused fault) sound counts shown = tt
 
 -- of a response that has not begun a client received nothing
 receives_nothing : (form : Option Form) → Receives form [] []

@@ -1,13 +1,15 @@
-use Rattle.std.proofs.Common.{rules, arith, ap, sym, ◌∙◌, ◌≡◌, ◌+◌, min, refl, []}
+use Rattle.std.proofs.Common.{rules, arith, ap, sym, ◌∙◌, ◌≡◌, ◌+◌, ◌-◌, min, refl, []}
 use Rattle.std.proofs.lemmas.Result.{err_from_is_err_and}
 use Rattle.git_msg.specs.Advertisement.{noted_offer}
 use Rattle.git_msg.specs.declared.offers.Caps.{Caps}
 use Rattle.git_client.specs.Machine.Client.{bytes_used, caps_of}
 use Rattle.git2show_lib.specs.Others.{Advertised}
+use Rattle.git2show_lib.specs.Machine.CheckFaults.{run_fault}
 use Rattle.git2show_lib.proofs.CheckRuns.{advertisement_expected, advertised, answer_passed, comes_nearer, lines_noted, nothing_run}
 use Rattle.git2show_lib.proofs.CheckRuns.{response_received, still_within}
 use Rattle.git2show_lib.proofs.CheckRuns.{why_lost}
-use Rattle.git2show_lib.proofs.CheckEnds.{advertisement_stopped, answering_stopped, not_noted, passing_stopped, reading_stopped, seen_the_end, well_placed}
+use Rattle.git2show_lib.proofs.CheckEnds.{advertisement_stopped, answering_stopped, not_noted, passing_stopped, reading_stopped, seen_the_end}
+use Rattle.git2show_lib.proofs.CheckEnds.{shown_of_both, well_placed}
 use Rattle.git2show_lib.proofs.checking.check.Goals as goal
 
 pub returns-in_err-left-clause-checked : goal.returns-in_err-left-clause-checked
@@ -82,6 +84,14 @@ returns-in_err-over-in-Request-clause-checked g c =
     (answering_stopped _ _ _ c.next_request.new.reader c.answer.new.responses c.answer.new.client at.over _ _ at.invariant.checking step fault
     c.answer.new.chunk _ _ _ _ c.in_err-over-in-Request.ensures.answered c.in_err-over-in-Request.ensures.announced c.in_err-over-in-Request.ensures.fault)
 
+pub returns-in_err-over-in-Request-clause-fault : goal.returns-in_err-over-in-Request-clause-fault
+returns-in_err-over-in-Request-clause-fault g c =
+    let met = err_from_is_err_and c.from_residual-in_err-over-in-Request.result c.from_residual-in_err-over-in-Request.ensures.1 in
+    rw (met.1, met.2)
+    (shown_of_both c.next_request.new.reader c.answer.new.responses _ c.args.turns (c.args.turns - c.reads-in-Request.result)
+    (run_fault c.in_err-over-in-Request.field-0.0) c.in_ok-judged.ensures.announced.0
+    (omega (arith, c.reads-in-Request.ensures, c.in_ok-judged.ensures.reads)) c.in_err-over-in-Request.ensures.fault)
+
 pub requests-smaller-in-Request : goal.requests-smaller-in-Request
 requests-smaller-in-Request g c =
     let step = rw c.in-Request.is at c.in_ok-judged.ensures.asked in
@@ -123,6 +133,14 @@ returns-in_err-over-in-Other-clause-checked g c =
     rw (met.1, met.2)
     (passing_stopped _ _ _ c.next_request.new.reader c.pass_other.new.responses at.over _ _ at.invariant.checking step fault c.saturating_add-place.result place
     c.pass_other.new.chunk _ _ _ _ c.in_err-over-in-Other.ensures.passed c.in_err-over-in-Other.ensures.announced c.in_err-over-in-Other.ensures.fault)
+
+pub returns-in_err-over-in-Other-clause-fault : goal.returns-in_err-over-in-Other-clause-fault
+returns-in_err-over-in-Other-clause-fault g c =
+    let met = err_from_is_err_and c.from_residual-in_err-over-in-Other.result c.from_residual-in_err-over-in-Other.ensures.1 in
+    rw (met.1, met.2)
+    (shown_of_both c.next_request.new.reader c.pass_other.new.responses _ c.args.turns (c.args.turns - c.reads-in-Other.result)
+    (run_fault c.in_err-over-in-Other.field-0.0) c.in_ok-judged.ensures.announced.0
+    (omega (arith, c.reads-in-Other.ensures, c.in_ok-judged.ensures.reads)) c.in_err-over-in-Other.ensures.fault)
 
 pub requests-smaller : goal.requests-smaller
 requests-smaller g c =
