@@ -9,9 +9,10 @@ write_failing() {
     passing="'$git' \"\$@\" | head -c $2"
     [ "$1" != cat-file ] || passing="head -n $2 | '$git' \"\$@\""
     mkdir -p failing
-    printf '%s\n' '#!/bin/sh' "case \" \$* \" in *' $1 '*) exec 2> /dev/null; $passing; kill -9 \$\$ ;; esac" "exec '$git' \"\$@\"" > failing/git
+    printf '%s\n' '#!/bin/sh' "case \" \$* \" in *' $1 '*) exec 2> /dev/null; $passing; kill -9 \$\$ ;; esac" "exec '$git' \"\$@\"" > failing/new
     printf '%s\n' '#!/bin/sh' "PATH='$room/failing':\$PATH exec '$uploading' \"\$@\"" > uploading-badly
-    chmod +x failing/git uploading-badly
+    chmod +x failing/new uploading-badly
+    mv failing/new failing/git # not written in place: what was killed may have left a process that is about to run it
 }
 
 # fails_to_clone WHAT NAME PROGRAM [OPTION..]: that there is no clone.
