@@ -192,24 +192,29 @@ fn state_argument(
         Ok(argument) => argument,
         Err(kind) => return append_line(alloc, lines, kind.name(), LineContent::Nothing),
     };
-    let word = word_at(&argument).keyword().trim_ascii_end();
-    let word = String::from_utf8_lossy(alloc, word)?;
+    append(lines, name_of(&argument))?;
+    state_value(alloc, lines, &argument)
+}
+
+// How the line of an argument begins.
+fn name_of(argument: &Argument<'_>) -> &'static [u8] {
     match argument {
-        Argument::Flag(_) => append_line(alloc, lines, word.as_str(), LineContent::Nothing),
-        Argument::Object(_, id) => state_object(alloc, lines, word.as_str(), id),
-        Argument::Text(TextWord::RefPrefix, prefix) => append_line(
-            alloc,
-            lines,
-            "prefix",
-            LineContent::Bytes(prefix),
-        ),
-        Argument::Text(_, text) => append_line(
-            alloc,
-            lines,
-            word.as_str(),
-            LineContent::Bytes(text),
-        ),
-        Argument::Number(_, number) => state_number(alloc, lines, word.as_str(), number),
+        Argument::Text(TextWord::RefPrefix, _) => b"prefix",
+        _ => word_at(argument).keyword().trim_ascii_end(),
+    }
+}
+
+// Ends the line with the argument's value.
+fn state_value(
+    alloc: Global,
+    lines: &mut Vec<u8>,
+    argument: &Argument<'_>,
+) -> Result<(), AllocError> {
+    match argument {
+        Argument::Flag(_) => append_line(alloc, lines, "", LineContent::Nothing),
+        Argument::Object(_, id) => state_object(alloc, lines, "", *id),
+        Argument::Text(_, text) => append_line(alloc, lines, "", LineContent::Bytes(text)),
+        Argument::Number(_, number) => state_number(alloc, lines, "", *number),
     }
 }
 
