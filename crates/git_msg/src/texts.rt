@@ -18,7 +18,18 @@ pub fn is_word(text: &[u8], word: &[u8]) -> bool
 pub fn after<'a>(text: &'a [u8], word: &[u8]) -> Option<&'a [u8]>
     ensures rest { MatchOption result (BeginsOtherThan word.now text.now) (λ rest. text.now ≡ word.now ++ rest.now) }
 {
-    text.strip_prefix(word)
+    if word.len() > text.len() {
+        return None;
+    }
+    // A word is short, and a text that begins otherwise mostly shows it at the word's end: there it has no space.
+    let mut left = word.len();
+    while left > 0 {
+        left -= 1;
+        if text[left] != word[left] {
+            return None;
+        }
+    }
+    Some(&text[word.len()..])
 }
 
 /// The first index of this byte in the text.
