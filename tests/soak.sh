@@ -17,22 +17,23 @@ descriptors_are() {
     differs "$(ls "/proc/$daemon/fd" | wc -l) descriptors instead of $1"
 }
 
-# A first round has used each place of the daemon, and a second one each place with many kinds: any further growth would be memory that is
-# never given back. The pack is mapped, and is not counted: the kernel takes it in as it is read, and out as it likes.
+# A first round has used each place of the daemon. A thread's heap grows once more when a heavier session than any before comes to its
+# place, so one round may grow; memory that is never given back grows in each of them. The pack is mapped, and is not counted: the
+# kernel takes it in as it is read, and out as it likes.
 case_a_daemon_in_c_is_the_same_after_a_thousand_lies() {
-    local descriptors memory
+    local descriptors memory grown=512 rounds
     patience=3
     write_lie
     start_daemon heavy daemon
     descriptors=$(ls "/proc/$daemon/fd" | wc -l)
     timeout 300 "$top/tests/soak.py" daemon "$port" 512 lie asks deaf garbage
-    timeout 300 "$top/tests/soak.py" daemon "$port" 1000 lie asks
-    descriptors_are "$descriptors"
-    memory=$(memory_of RssAnon)
-    timeout 300 "$top/tests/soak.py" daemon "$port" 1000 lie asks
-    descriptors_are "$descriptors"
-    memory=$(($(memory_of RssAnon) - memory))
-    [ $memory -lt 1024 ] || differs "$memory KiB more after a thousand sessions"
+    for ((rounds = 0; rounds < 5 && grown >= 512; rounds++)); do
+        memory=$(memory_of RssAnon)
+        timeout 300 "$top/tests/soak.py" daemon "$port" 1000 lie asks
+        descriptors_are "$descriptors"
+        grown=$(($(memory_of RssAnon) - memory))
+    done
+    [ $grown -lt 512 ] || differs "$grown KiB more in each of $rounds rounds of a thousand sessions"
     ls_remote "$address" refs/heads/main
     expect 0 <(git ls-remote ./heavy refs/heads/main) /dev/null
     end_daemon

@@ -18,9 +18,9 @@ use Rattle.git_client.specs.declared.receiving.Window.{Window}
 use Rattle.git_client.proofs.ReceivedBytes.{received_flushed, received_then, nothing_received}
 use Rattle.git_client.proofs.ReceivingBytes.{ReceivedSoFar, none_left}
 use Rattle.git_client.proofs.Phases.{not_ready_where_expected}
-use Rattle.git2show_lib.specs.Others.{line_kept, lines_kept}
+use Rattle.git2show_lib.specs.Others.{line_kept}
 use Rattle.git2show_lib.specs.Machine.CheckSteps.{ReceivesNoting, nowhere}
-use Rattle.git2show_lib.specs.Machine.Noting.{AreLost, HasNotedLines, KeepsLine}
+use Rattle.git2show_lib.specs.Machine.Noting.{HasNotedLines, KeepsLine}
 use Rattle.git2show_lib.specs.declared.noting.Noting.{Noting}
 use Rattle.git2show_lib.proofs.OtherLines.{kept_snoc}
 
@@ -30,17 +30,6 @@ flushed_only held after kept = Appends-kept held held after [] (written_nothing 
 
 module _ {A : Type 0} where
   -- ---- what is noted
-
-  -- bytes of no packet
-  pub noted_more : (old new : Noting A) (used u : List ℕ) → ReadsOn old.packets u [] new.packets → new.text.items ≡ old.text.items
-      → new.lost ≡ old.lost → HasNotedLines used old → HasNotedLines (used ++ u) new
-  noted_more old new used u reads same lost h = record {
-    notes = λ none.
-        let n = h.notes (sym lost ∙ none) in
-        let (rest, stream) = reads 0 used n.given n.rest n.reads in
-        record { given = n.given ++ []; rest = rest; reads = stream; text_is = same ∙ n.text_is ∙ ap lines_kept (sym (append-nil n.given)) };
-    why = subst AreLost (sym lost) h.why;
-  }
 
   -- bytes that end a packet
   pub noted_packet : (old new : Noting A) (used u : List ℕ) (g : Given) → ReadsOn old.packets u (g ∷ []) new.packets

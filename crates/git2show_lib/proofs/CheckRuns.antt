@@ -8,7 +8,7 @@ use Rattle.git_pkt.specs.Faults.{last_position}
 use Rattle.git_pkt.specs.Splits.{Given, Splits}
 use Rattle.git_pkt.specs.Streams.{Flow, flow, WrittenAs}
 use Rattle.git_pkt.specs.declared.fault.Kind.{Kind}
-use Rattle.git_pkt.proofs.EngineLemmas.{written_nothing, written_then, written_whole}
+use Rattle.git_pkt.proofs.EngineLemmas.{written_nothing, written_then}
 use Rattle.git_pkt.proofs.Spelling.{none_begins_nothing}
 use Rattle.git_msg.specs.Advertisement.{noted_offer}
 use Rattle.git_msg.specs.Asked.{Asked}
@@ -94,10 +94,6 @@ none_asked offer limit = record { packets = []; splits = record { spelled = refl
 
 less_nothing : (n : ℕ) → n ≡ n - 0
 less_nothing n = omega arith
-
--- where nothing is known of what is written, anything was
-silent_written : (broken : Bool) (bytes : List ℕ) → WrittenAs broken silent bytes
-silent_written broken bytes = written_whole broken silent bytes tt
 
 -- a count that stops counts on
 counts_more : (count more before : ℕ) → count ≡ min before 18446744073709551615

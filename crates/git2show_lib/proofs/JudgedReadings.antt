@@ -1,5 +1,5 @@
 -- What the bytes used so far ask for, and what is left after the whole requests, by the stage of a reader of them.
-use Rattle.std.proofs.Common.{[], ◌≡◌, ◌≢◌, ◌⊎◌, ℕ, ◌+◌, true, false, List, ◌++◌, length, Option, Some, None, refl, subst, append-nil, inl, inr, arith}
+use Rattle.std.proofs.Common.{[], ◌≡◌, ◌≢◌, ◌⊎◌, ℕ, ◌+◌, true, false, List, ◌++◌, length, Some, None, refl, subst, append-nil, inl, inr, arith}
 use Rattle.git_pkt.specs.Splits.{Given}
 use Rattle.git_pkt.specs.Faults.{IsOpen}
 use Rattle.git_pkt.specs.Machine.PacketReader.{ReadsOn, fault_of as packet_fault, is_open, open_length, position_of}

@@ -152,31 +152,16 @@ left_lines by limit left rest end Passing on other h = absurd (other refl)
 left_lines by limit left rest end Stopped on other h = absurd (cc)
 left_lines by limit left rest end (FailedStage fault) on other h = absurd (cc)
 
--- outside of requests that pass the place is that after what is left, which a reader has taken
-pub place_other : (stage : Stage) (left : List Given) → (stage ≡ Passing → ⊥) → place_for stage left ≡ place_after first_place left
-place_other Between left other = refl
-place_other Within left other = refl
-place_other Passing left other = absurd (other refl)
-place_other Stopped left other = refl
-place_other (FailedStage fault) left other = refl
+-- what a reader has of what is left, outside of requests that pass
+pub record IsAllTaken (stage : Stage) (text : List ℕ) (left : List Given) : Type 0 where
+  pub place : place_for stage left ≡ place_after first_place left
+  pub taken : taken_in stage text left ≡ judged_of text left
+  pub counted : counted_for stage text left ≡ counted_of text left
+  pub noted : noted_for stage text left ≡ noted_of text left
 
-pub taken_other : (stage : Stage) (text : List ℕ) (left : List Given) → (stage ≡ Passing → ⊥) → taken_in stage text left ≡ judged_of text left
-taken_other Between text left other = refl
-taken_other Within text left other = refl
-taken_other Passing text left other = absurd (other refl)
-taken_other Stopped text left other = refl
-taken_other (FailedStage fault) text left other = refl
-
-pub counted_other : (stage : Stage) (text : List ℕ) (left : List Given) → (stage ≡ Passing → ⊥) → counted_for stage text left ≡ counted_of text left
-counted_other Between text left other = refl
-counted_other Within text left other = refl
-counted_other Passing text left other = absurd (other refl)
-counted_other Stopped text left other = refl
-counted_other (FailedStage fault) text left other = refl
-
-pub noted_other : (stage : Stage) (text : List ℕ) (left : List Given) → (stage ≡ Passing → ⊥) → noted_for stage text left ≡ noted_of text left
-noted_other Between text left other = refl
-noted_other Within text left other = refl
-noted_other Passing text left other = absurd (other refl)
-noted_other Stopped text left other = refl
-noted_other (FailedStage fault) text left other = refl
+pub all_taken : (stage : Stage) (text : List ℕ) (left : List Given) → (stage ≡ Passing → ⊥) → IsAllTaken stage text left
+all_taken Between text left other = record { place = refl; taken = refl; counted = refl; noted = refl }
+all_taken Within text left other = record { place = refl; taken = refl; counted = refl; noted = refl }
+all_taken Passing text left other = absurd (other refl)
+all_taken Stopped text left other = record { place = refl; taken = refl; counted = refl; noted = refl }
+all_taken (FailedStage fault) text left other = record { place = refl; taken = refl; counted = refl; noted = refl }

@@ -1,6 +1,5 @@
 -- A reader of requests of another client, a packet at a time.
-use Rattle.std.proofs.Common.{◌≡◌, ◌≢◌, ◌⊎◌, ℕ, ◌+◌, ◌-◌, ◌<◌, ◌≤◌, min, true, false, List, [], ◌∷◌, ◌++◌, length, take, drop, Option, Some, None}
-use Rattle.std.proofs.Common.{length-drop}
+use Rattle.std.proofs.Common.{◌≡◌, ◌≢◌, ◌⊎◌, ℕ, ◌+◌, ◌<◌, ◌≤◌, min, true, false, List, [], ◌∷◌, ◌++◌, length, take, Option, Some, None}
 use Rattle.std.proofs.Common.{refl, sym, ap, ◌∙◌, subst, append-nil, inl, inr, arith}
 use Rattle.git_pkt.specs.Packets.{Pkt, flush, delim, resp_end, payload}
 use Rattle.git_pkt.specs.Splits.{Given, SpellsAll}
@@ -9,7 +8,7 @@ use Rattle.git_pkt.specs.declared.fault.Fault.{Fault}
 use Rattle.git_pkt.specs.declared.fault.Kind.{Kind}
 use Rattle.git_pkt.specs.declared.fault.Kind.TheVariants.{OutOfMemory, StreamTooLong, Truncated}
 use Rattle.git_pkt.proofs.KnownRest.{sound_rest}
-use Rattle.git_pkt.proofs.Chunks.{joined, left_of}
+use Rattle.git_pkt.proofs.Chunks.{joined}
 use Rattle.git_pkt.proofs.Streams.{one_split}
 use Rattle.git_msg.specs.Admission.{nothing_barred}
 use Rattle.git_msg.specs.Machine.HeldRequest.{asked_of, kept_of}
@@ -44,10 +43,11 @@ use Rattle.git2show_lib.specs.Machine.KeptLines.{IsNotKept, KeepsWithin, noted_i
 use Rattle.git2show_lib.specs.Others.{counted_at, counted_of}
 use Rattle.git2show_lib.specs.Machine.JudgedRequests.{counted_for, kept_brought, limited_got, noted_brought, noted_for, noted_passed}
 use Rattle.git2show_lib.specs.declared.other_lines.Asks.{Asks}
+use Rattle.git2show_lib.proofs.ChunkParts.{left_bytes, shown_further}
 use Rattle.git2show_lib.proofs.NamedCommands.{asked_none, begins_on, begun_no_flush, named_as, named_no_flush, named_snoc, names_snoc}
 use Rattle.git2show_lib.proofs.OtherLines.{counted_snoc, judged_snoc, none_snoc, noted_snoc, place_snoc}
-use Rattle.git2show_lib.proofs.JudgedStages.{counted_other, left_cut, left_lines, left_on, left_passed, left_refused, left_unnamed, noted_other}
-use Rattle.git2show_lib.proofs.JudgedStages.{one_more_question, place_other, questions_more, taken_other}
+use Rattle.git2show_lib.proofs.JudgedStages.{IsAllTaken, all_taken, left_cut, left_lines, left_on, left_passed, left_refused, left_unnamed}
+use Rattle.git2show_lib.proofs.JudgedStages.{one_more_question, questions_more}
 
 some_left : (left : List Given) (g : Given) → left ++ g ∷ [] ≢ []
 some_left [] g e = cc
@@ -230,14 +230,24 @@ module _ {A : Type 0} (old new : JudgedRequests A) (u : List ℕ) (wants : wants
   -- ---- a packet of any other request
 
   module _ (other : old.judge.stage ≡ Passing → ⊥) (g : Given) (reads : ReadsOn old.packets u (g ∷ []) new.packets) where
+    all_before : IsAllTaken old.judge.stage (text_of new) h.left
+    all_before = all_taken old.judge.stage (text_of new) h.left other
+
+    all_with_it : IsAllTaken old.judge.stage (text_of new) (h.left ++ g ∷ [])
+    all_with_it = all_taken old.judge.stage (text_of new) (h.left ++ g ∷ []) other
+
+    place_now : old.judge.place ≡ place_after first_place h.left
+    place_now = h.place_is wants ∙ all_before.place
+
+    -- what holds at the place of the reader holds after what is left
+    here : {T : Type 0} (fact : Place → T) (value : T) → fact old.judge.place ≡ value → fact (place_after first_place h.left) ≡ value
+    here fact value is = ap fact (sym place_now) ∙ is
+
     placed : new.judge.place ≡ place_next old.judge.place g.packet → new.judge.place ≡ place_after first_place (h.left ++ g ∷ [])
-    placed place =
-        place ∙ ap (λ (p : Place). place_next p g.packet) (h.place_is wants ∙ place_other old.judge.stage h.left other)
-        ∙ sym (place_snoc first_place h.left g)
+    placed place = place ∙ ap (λ (p : Place). place_next p g.packet) place_now ∙ sym (place_snoc first_place h.left g)
 
     taken_now : Takes (judged_of (text_of new) h.left) old.judge.requests
-    taken_now =
-        subst (λ (gs : List Given). Takes gs old.judge.requests) (taken_other old.judge.stage (text_of new) h.left other) taken_before
+    taken_now = subst (λ (gs : List Given). Takes gs old.judge.requests) all_before.taken taken_before
 
     begun_now : AreBegun (advertised_by new).offer (limit_of new) (judged_of (text_of new) h.left)
     begun_now = left_lines (advertised_by new) (limit_of new) h.left h.rest (length used) old.judge.stage wants other left_before
@@ -245,8 +255,7 @@ module _ {A : Type 0} (old new : JudgedRequests A) (u : List ℕ) (wants : wants
     -- it names a command that passes
     module _ (names : names_other (text_of new) old.judge.place g.packet ≡ true) (within : old.judge.kept ≤ limit_of new) where
       names_now : names_other (text_of new) (place_after first_place h.left) g.packet ≡ true
-      names_now =
-          ap (λ (p : Place). names_other (text_of new) p g.packet) (sym (h.place_is wants ∙ place_other old.judge.stage h.left other)) ∙ names
+      names_now = here (λ (p : Place). names_other (text_of new) p g.packet) true names
 
       begins_now : BeginWithOther (advertised_by new) (limit_of new) (h.left ++ g ∷ [])
       begins_now = record {
@@ -255,7 +264,7 @@ module _ {A : Type 0} (old new : JudgedRequests A) (u : List ℕ) (wants : wants
         more = [];
         parts = refl;
         begun = begun_now;
-        kept = subst (λ (n : ℕ). n ≤ limit_of new) (kept_before ∙ counted_other old.judge.stage (text_of new) h.left other) within;
+        kept = subst (λ (n : ℕ). n ≤ limit_of new) (kept_before ∙ all_before.counted) within;
         names = names_now;
       }
 
@@ -264,7 +273,7 @@ module _ {A : Type 0} (old new : JudgedRequests A) (u : List ℕ) (wants : wants
       unfolding begins_now
       named_also =
           ap (λ (n : Noted). record { lines = n.lines ++ name_shown g.packet; asks = n.asks })
-          (noted_before ∙ noted_other old.judge.stage (text_of new) h.left other)
+          (noted_before ∙ all_before.noted)
           ∙ ap (λ (asks : Asks). record { lines = (noted_of (text_of new) h.left).lines ++ name_shown g.packet; asks = asks })
           (asked_none (advertised_by new) (limit_of new) h.left g begun_now names_now)
           ∙ ap (λ (lines : List ℕ). record { lines = lines; asks = asks_nothing })
@@ -299,8 +308,7 @@ module _ {A : Type 0} (old new : JudgedRequests A) (u : List ℕ) (wants : wants
 
     -- it names none
     unnamed_here : names_other (text_of new) old.judge.place g.packet ≡ false → names_other (text_of new) (place_after first_place h.left) g.packet ≡ false
-    unnamed_here unnamed =
-        ap (λ (p : Place). names_other (text_of new) p g.packet) (sym (h.place_is wants ∙ place_other old.judge.stage h.left other)) ∙ unnamed
+    unnamed_here = here (λ (p : Place). names_other (text_of new) p g.packet) false
 
     unnamed_now : names_other (text_of new) old.judge.place g.packet ≡ false → NoneNames (text_of new) first_place (h.left ++ g ∷ [])
     unnamed_now unnamed =
@@ -313,23 +321,23 @@ module _ {A : Type 0} (old new : JudgedRequests A) (u : List ℕ) (wants : wants
     judged_with judged is =
         judged_snoc (text_of new) first_place h.left g
         ∙ ap (λ (o : Option Pkt). judged_of (text_of new) h.left ++ given_as o g.offset)
-        (ap (λ (p : Place). judged_packet (text_of new) p g.packet) (sym (h.place_is wants ∙ place_other old.judge.stage h.left other)) ∙ is)
+        (here (λ (p : Place). judged_packet (text_of new) p g.packet) judged is)
 
     -- so much counts as kept with it
     abbrev pub counts : ℕ
     counts = old.judge.kept + counted_at (text_of new) old.judge.place g.packet
 
     kept_now : old.judge.kept ≡ counted_of (text_of new) h.left
-    kept_now = kept_before ∙ counted_other old.judge.stage (text_of new) h.left other
+    kept_now = kept_before ∙ all_before.counted
 
     counted_now : counted_of (text_of new) (h.left ++ g ∷ []) ≡ counts
     counted_now =
         counted_snoc (text_of new) first_place h.left g
         ∙ ap (λ (n : ℕ). n + counted_at (text_of new) (place_after first_place h.left) g.packet) (sym kept_now)
-        ∙ ap (λ (p : Place). old.judge.kept + counted_at (text_of new) p g.packet) (sym (h.place_is wants ∙ place_other old.judge.stage h.left other))
+        ∙ ap (λ (p : Place). old.judge.kept + counted_at (text_of new) p g.packet) (sym place_now)
 
     noted_now : noted_in old.judge.others ≡ noted_of (text_of new) h.left
-    noted_now = noted_before ∙ noted_other old.judge.stage (text_of new) h.left other
+    noted_now = noted_before ∙ all_before.noted
 
     -- what is noted with it
     abbrev pub notes : Noted
@@ -338,7 +346,7 @@ module _ {A : Type 0} (old new : JudgedRequests A) (u : List ℕ) (wants : wants
     noted_also : notes ≡ noted_of (text_of new) (h.left ++ g ∷ [])
     noted_also =
         ap (λ (n : Noted). noted_with (text_of new) old.judge.place n g.packet) noted_now
-        ∙ ap (λ (p : Place). noted_with (text_of new) p (noted_of (text_of new) h.left) g.packet) (h.place_is wants ∙ place_other old.judge.stage h.left other)
+        ∙ ap (λ (p : Place). noted_with (text_of new) p (noted_of (text_of new) h.left) g.packet) place_now
         ∙ sym (noted_snoc (text_of new) first_place nothing_noted h.left g)
 
     -- its line is not kept
@@ -355,8 +363,7 @@ module _ {A : Type 0} (old new : JudgedRequests A) (u : List ℕ) (wants : wants
           begun = begun_now;
           kept = subst (λ (n : ℕ). n ≤ limit_of new) kept_now within;
           why = subst (λ (n : ℕ). IsNotKept kind n (limit_of new) (shown_at (text_of new) (place_after first_place h.left) g.packet)) (sym counted_now)
-              (subst (λ (p : Place). IsNotKept kind counts (limit_of new) (shown_at (text_of new) p g.packet))
-              (h.place_is wants ∙ place_other old.judge.stage h.left other) why);
+              (subst (λ (p : Place). IsNotKept kind counts (limit_of new) (shown_at (text_of new) p g.packet)) place_now why);
           no_rest = rest_behind new.packets (used ++ u) (h.packets ++ g ∷ []) rest sound shut stream;
           at = refl;
         })))) (λ on. absurd (cc)) (λ on. absurd (cc)) (λ on. absurd (cc)) (λ on. absurd (cc)))
@@ -369,18 +376,12 @@ module _ {A : Type 0} (old new : JudgedRequests A) (u : List ℕ) (wants : wants
     passed_read unnamed none place kept noted same is =
         let (rest, stream) = reads 0 used h.packets h.rest h.reads in
         let judged = judged_with None none ∙ append-nil (judged_of (text_of new) h.left) in
-        let here = ap (λ (p : Place). judged_packet (text_of new) p g.packet) (sym (h.place_is wants ∙ place_other old.judge.stage h.left other)) ∙ none in
         none_more asked (has_read (h.packets ++ g ∷ []) (h.left ++ g ∷ []) rest asked old.judge.stage is stream (requests_with g reads)
         (left_passed (advertised_by new) (limit_of new) h.left g h.rest rest (length used) (length (used ++ u)) old.judge.stage wants other left_before
-        (unnamed_here unnamed)
-        here judged)
-        (λ on. placed place ∙ sym (place_other old.judge.stage (h.left ++ g ∷ []) other))
-        (λ on. kept ∙ sym counted_now ∙ sym (counted_other old.judge.stage (text_of new) (h.left ++ g ∷ []) other))
-        (λ on. noted ∙ noted_also ∙ sym (noted_other old.judge.stage (text_of new) (h.left ++ g ∷ []) other))
-        (λ on.
-        subst (λ (gs : List Given). Takes gs new.judge.requests)
-        (taken_other old.judge.stage (text_of new) h.left other ∙ sym judged ∙ sym (taken_other old.judge.stage (text_of new) (h.left ++ g ∷ []) other))
-        (taken_still same)))
+        (unnamed_here unnamed) (here (λ (p : Place). judged_packet (text_of new) p g.packet) None none) judged)
+        (λ on. placed place ∙ sym all_with_it.place) (λ on. kept ∙ sym counted_now ∙ sym all_with_it.counted)
+        (λ on. noted ∙ noted_also ∙ sym all_with_it.noted)
+        (λ on. subst (λ (gs : List Given). Takes gs new.judge.requests) (all_before.taken ∙ sym judged ∙ sym all_with_it.taken) (taken_still same)))
 
     -- or read as this
     module _ (unnamed : names_other (text_of new) old.judge.place g.packet ≡ false) (j : Pkt)
@@ -473,7 +474,7 @@ sum_over : (counts kept limit : ℕ) → kept ≡ min counts 1844674407370955161
 sum_over counts kept limit is over = grind arith
 
 -- the same for what is kept within it
-pub keeps_all : (refused : Option Kind) (text : List ℕ) (place : Place) (packet : Pkt) (counts kept limit : ℕ) (old new : Noted)
+keeps_all : (refused : Option Kind) (text : List ℕ) (place : Place) (packet : Pkt) (counts kept limit : ℕ) (old new : Noted)
     → kept ≡ min counts 18446744073709551615 → limit ≤ 4294967295 → KeepsWithin refused text place packet kept limit old new
     → KeepsWithin refused text place packet counts limit old new × (refused ≡ None → kept ≡ counts)
 keeps_all None text place packet counts kept limit old new is fits (within, noted) =
@@ -482,6 +483,22 @@ keeps_all (Some kind) text place packet counts kept limit old new is fits (inl (
     (inl (named, sum_over counts kept limit is over), λ e. absurd (cc))
 keeps_all (Some kind) text place packet counts kept limit old new is fits (inr (named, within, shown)) =
     (inr (named, subst (λ (n : ℕ). n ≤ limit) (sum_within counts kept limit is within fits) within, shown), λ e. absurd (cc))
+
+-- what a packet keeps: the number that the code has counts it exactly within the limit
+pub record KeepsLine (refused : Option Kind) (text : List ℕ) (place : Place) (packet : Pkt) (counts kept limit : ℕ) (old new : Noted) : Type 0 where
+  pub keeps : KeepsWithin refused text place packet kept limit old new
+  pub keeps_counts : KeepsWithin refused text place packet counts limit old new
+  pub exact : refused ≡ None → kept ≡ counts
+
+pub keeps_line : (refused : Option Kind) {first second : List ℕ} (text : List ℕ) (place : Place) (packet : Pkt) (before more kept limit : ℕ) (old new : Noted)
+    → first ≡ text → more ≡ counted_at first place packet → kept ≡ min (before + more) 18446744073709551615 → limit ≤ 4294967295
+    → second ≡ text → KeepsWithin refused second place packet kept limit old new
+    → KeepsLine refused text place packet (before + counted_at text place packet) kept limit old new
+keeps_line refused text place packet before more kept limit old new first counted sum fits second keeps =
+    let counts = sum ∙ ap (λ (n : ℕ). min (before + n) 18446744073709551615) (counted ∙ ap (λ (l : List ℕ). counted_at l place packet) first) in
+    let kept_by = subst (λ (l : List ℕ). KeepsWithin refused l place packet kept limit old new) second keeps in
+    let all = keeps_all refused text place packet (before + counted_at text place packet) kept limit old new counts fits kept_by in
+    record { keeps = kept_by; keeps_counts = all.0; exact = all.1 }
 
 -- what the same offer and text were advertised by is the same
 pub same_advertised : (text : List ℕ) (offer other : Offer) → offer ≡ other
@@ -648,7 +665,7 @@ packet_news old new g (Failed announced) (Some kind) text place packet kept limi
 module _ {A : Type 0} (old mid new : JudgedRequests A) (chunk : List ℕ) (done : ℕ) (within : done ≤ length chunk)
     (more : ℕ) (got : JudgedGot A) where
   abbrev Stepping : Type 0
-  Stepping = ReadsBy StepLeaves mid (take (length chunk - done) (drop done chunk)) (record { used = more; got = got }) new
+  Stepping = ReadsBy StepLeaves mid (left_bytes chunk done) (record { used = more; got = got }) new
 
   pub reads_further : Stepping
       → ((used : List ℕ) (asked : List Question) → HasRead used asked old → HasRead (used ++ take done chunk) asked mid)
@@ -659,12 +676,7 @@ module _ {A : Type 0} (old mid new : JudgedRequests A) (chunk : List ℕ) (done 
 
   -- a fault that what is left of the chunk shows, the chunk shows
   pub shows_further : Stepping → (fault : Fault) → got ≡ Got.Failed fault → ShownByFeed fault (done + more) chunk
-  shows_further steps fault is =
-      let shown = steps.news fault is in
-      record {
-        not_the_end = shown.not_the_end;
-        one_more = λ long. omega (arith, shown.one_more long, ap length (left_of chunk done within), length-drop done chunk);
-      }
+  shows_further steps fault is = shown_further chunk done within fault more (steps.news fault is)
 
 -- what a step did, by its answer
 pub steps_with : {A : Type 0} (old new : JudgedRequests A) (chunk : List ℕ) (read : JudgedRead A) (got : JudgedGot A) → read.got ≡ got

@@ -1,6 +1,6 @@
 -- Where nothing was advertised that is not known, each packet of a request is read as it is, and nothing passes.
 use Rattle.std.proofs.Common.{◌≡◌, ◌⊎◌, ◌==◌, ◌&&◌, not, Bool, true, false, ℕ, List, []}
-use Rattle.std.proofs.Common.{◌∷◌, ◌++◌, Option, Some, None, codes, if◌then◌else◌, map, refl, sym, ap, ◌∙◌, inl, inr, append-nil}
+use Rattle.std.proofs.Common.{◌∷◌, Option, Some, None, codes, map, refl, ap, ◌∙◌, inl, inr, append-nil}
 use Rattle.std.specs.List.{before_first}
 use Rattle.std.specs.Str.{bytes_eq}
 use Rattle.git_pkt.specs.Packets.{Pkt, flush, delim, resp_end, payload, text_of}
@@ -10,10 +10,10 @@ use Rattle.git_msg.specs.declared.arguments.Command.{Command}
 use Rattle.git_msg.specs.declared.arguments.Command.TheVariants.{LsRefs, Fetch, ObjectInfo}
 use Rattle.git_msg.specs.Asked.{Asked}
 use Rattle.git_msg.specs.declared.offers.Offer.{Offer}
-use Rattle.git2show_lib.specs.Others.{IsOtherRequest, given_as, is_advertised, is_allowed_key, is_allowed_value}
+use Rattle.git2show_lib.specs.Others.{IsOtherRequest, is_advertised, is_allowed_key, is_allowed_value}
 use Rattle.git2show_lib.specs.Others.{is_other_argument, is_other_capability, is_other_command, is_own_key, is_own_word}
-use Rattle.git2show_lib.specs.Others.{first_place, judged_in, judged_line, judged_packet, line_has, names_other, place_after, place_next}
-use Rattle.git2show_lib.specs.OtherLines.{Noted, Question, known, other, asks_line, is_fetch, line_with, nothing_noted, noted_from, noted_with}
+use Rattle.git2show_lib.specs.Others.{first_place, line_has, names_other, place_after, place_next}
+use Rattle.git2show_lib.specs.OtherLines.{Noted, Question, known, other, asks_line, is_fetch, nothing_noted, noted_from, noted_with}
 use Rattle.git2show_lib.specs.OtherLines.{shown_line}
 use Rattle.git2show_lib.specs.Machine.JudgedRequests.{AreQuestions}
 use Rattle.git2show_lib.specs.declared.other_lines.Asks.{Asks}
@@ -54,25 +54,6 @@ unfolding is_other_capability
 no_capability line =
     not_all (is_allowed_key (key_of line)) (is_allowed_value (value_of line)) (is_own_key (key_of line)) (is_advertised [] None (key_of line))
     (no_key (key_of line))
-
-known_line : (place : Place) (bytes : List ℕ) → judged_line [] place bytes ≡ Some (payload bytes)
-unfolding judged_line
-known_line Unnamed bytes = rw (no_capability (text_of bytes)) refl
-known_line (Named command) bytes = rw (no_capability (text_of bytes)) refl
-known_line (Arguments command) bytes = rw (no_argument command (text_of bytes)) refl
-
-known_packet : (place : Place) (packet : Pkt) → judged_packet [] place packet ≡ Some packet
-known_packet place flush = refl
-known_packet place delim = refl
-known_packet place resp_end = refl
-known_packet place (payload bytes) = known_line place bytes
-
--- each packet is read as it is
-pub all_known : (place : Place) (gs : List Given) → judged_in [] place gs ≡ gs
-all_known place [] = refl
-all_known place (g ∷ gs) =
-    ap (λ (o : Option Pkt). given_as o g.offset ++ judged_in [] (place_next place g.packet) gs) (known_packet place g.packet)
-    ∙ ap (λ (l : List Given). g ∷ l) (all_known (place_next place g.packet) gs)
 
 -- ---- and no request is for another command, so that nothing passes
 

@@ -6,6 +6,7 @@ pub mod KnownTurns
 pub mod TurnsTaken
 pub mod RequestsShown
 pub mod Turns
+pub mod ChunkParts
 pub mod PassedAnswers
 pub mod KnownLines
 pub mod KnownChecks

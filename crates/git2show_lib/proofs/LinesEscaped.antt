@@ -1,6 +1,6 @@
 -- The escapes of bytes, appended a block at a time.
 use Rattle.std.proofs.Common.{arith, ◌≡◌, ℕ, ◌+◌, ◌*◌, ◌≤◌, List, [], ◌++◌, length, sym, ap, ◌∙◌, append_assoc, append-nil}
-use Rattle.std.proofs.lemmas.List.{length-append, nil_from_length}
+use Rattle.std.proofs.lemmas.List.{length-append}
 use Rattle.git_pkt.specs.Escape.{escaped_of}
 use Rattle.git_pkt.proofs.Escapes.{escaped-append}
 
@@ -26,9 +26,3 @@ module _ {before bytes lines left : List ℕ} (so_far : EscapedUpTo before bytes
     lines_are = is ∙ ap (λ (l : List ℕ). l ++ escaped_of block) so_far.lines_are ∙ append_assoc before (escaped_of so_far.done) (escaped_of block)
         ∙ ap (λ (l : List ℕ). before ++ l) (sym (escaped-append so_far.done block));
   }
-
-  pub escaped_all : length left ≡ 0 → lines ≡ before ++ escaped_of bytes
-  escaped_all none =
-      let all : so_far.done ≡ bytes =
-      sym (append-nil so_far.done) ∙ ap (λ (l : List ℕ). so_far.done ++ l) (sym (nil_from_length left none)) ∙ so_far.parts in
-      so_far.lines_are ∙ ap (λ (l : List ℕ). before ++ escaped_of l) all

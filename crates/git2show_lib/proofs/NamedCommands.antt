@@ -41,10 +41,6 @@ pub begun_no_flush : (by : Advertised) (limit : ℕ) (left : List Given) → Are
 begun_no_flush by limit left (lines, begun) =
     no_flush by.text first_place left (lines_have_no_flush by.offer limit [] (judged_of by.text left) lines begun)
 
-pub none_with : (packet : Pkt) (gs more : List Given) → NoneIs packet gs → NoneIs packet more → NoneIs packet (gs ++ more)
-none_with packet [] more none also = also
-none_with packet (g ∷ gs) more none also = (none.0, none_with packet gs more none.1 also)
-
 -- ---- places
 
 unnamed_line : (place : Place) (line : List ℕ) → place_at_line place line ≡ Unnamed → place ≡ Unnamed

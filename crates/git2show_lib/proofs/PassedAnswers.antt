@@ -1,13 +1,12 @@
 -- An answer that passes, a chunk at a time.
-use Rattle.std.proofs.Common.{arith, ◌≡◌, ◌≢◌, ℕ, ◌+◌, ◌-◌, ◌≤◌, Bool, true, false, List, [], ◌∷◌, ◌++◌, length, take, drop, Option, None, Some, Result, Ok}
+use Rattle.std.proofs.Common.{arith, ◌≡◌, ◌≢◌, ℕ, ◌+◌, ◌≤◌, Bool, true, false, List, [], ◌∷◌, ◌++◌, length, take, drop, Option, None, Some, Result, Ok}
 use Rattle.std.proofs.Common.{IsErrAnd, inl, inr, refl, sym, ap, ◌∙◌, subst, append_assoc, append-nil, length-drop, take-append-drop}
-use Rattle.std.proofs.lemmas.List.{take_all}
-use Rattle.std.proofs.KnownBytes.{Consumes-nil, Consumes-trans, Consumes-kept}
+use Rattle.std.proofs.KnownBytes.{Consumes-trans, Consumes-kept}
 use Rattle.std.specs.Io.KnownBytes.{Consumes, Keeps}
 use Rattle.git_pkt.specs.Packets.{Pkt, flush, delim, resp_end, payload}
 use Rattle.git_pkt.specs.Splits.{Given}
 use Rattle.git_pkt.specs.Streams.{Flow, flow}
-use Rattle.git_pkt.specs.Machine.PacketReader.{Reads, ReadsOn, ShownByFeed, fault_of, is_open, open_length, position_of}
+use Rattle.git_pkt.specs.Machine.PacketReader.{Reads, ReadsOn, fault_of, is_open, open_length, position_of}
 use Rattle.git_pkt.specs.declared.fault.Fault.{Fault}
 use Rattle.git_pkt.specs.declared.fault.Kind.TheVariants.{Truncated}
 use Rattle.git_pkt.specs.declared.fault.RunFault.{RunFault}
@@ -15,7 +14,7 @@ use Rattle.git_pkt.specs.declared.fault.RunFault.TheVariants.{ReadFault}
 use Rattle.git_pkt.specs.declared.reader.PacketReader.{PacketReader}
 use Rattle.git_pkt.proofs.EngineLemmas.{at_fault, timely}
 use Rattle.git_pkt.proofs.KnownRest.{rest_length, sound_rest}
-use Rattle.git_pkt.proofs.Chunks.{joined, left_of}
+use Rattle.git_pkt.proofs.Chunks.{joined}
 use Rattle.git_msg.proofs.StreamSteps.{rest_behind, stopped_by}
 use Rattle.git_client.specs.Machine.RunSteps.{window_of}
 use Rattle.git_client.specs.declared.events.Ending.{Ending}
@@ -24,6 +23,7 @@ use Rattle.git2show_lib.specs.Others.{AreCutOff, is_last, last_of}
 use Rattle.git2show_lib.specs.Machine.OtherAnswers.{BreaksIn, BreaksOff, ClosesAnswer, HasPassed, Passes, PassesAll, PassesNot, PassesOn, PassesChunk, PassesTo}
 use Rattle.git2show_lib.specs.Machine.OtherAnswers.{PassesUpTo, PassesWhole, Uses}
 use Rattle.git2show_lib.specs.declared.other_answers.Passed.{Passed}
+use Rattle.git2show_lib.proofs.ChunkParts.{left_bytes}
 use Rattle.git2show_lib.proofs.OtherLines.{none_snoc}
 use Rattle.git2show_lib.proofs.RequestsRead.{front_window}
 
@@ -52,18 +52,7 @@ not_last ResponseEnd (payload bytes) e same = cc
 -- ---- a chunk
 
 module _ (ending : Ending) (old new : PacketReader) (used u : List ℕ) (h : Passes ending used old) where
-  -- bytes that end no packet
-  pub passes_bytes : ReadsOn old u [] new → Passes ending (used ++ u) new
-  passes_bytes reads =
-      let (rest, stream) = reads 0 used h.given h.rest h.reads in
-      record {
-        given = h.given;
-        rest = rest;
-        reads = subst (λ (gs : List Given). Reads new 0 (used ++ u) gs rest) (append-nil h.given) stream;
-        goes_on = h.goes_on;
-      }
-
-  -- or one that is not the last
+  -- a packet that is not the last one passes
   pub passes_packet : (g : Given) → ReadsOn old u (g ∷ []) new → is_last ending g.packet ≡ false → Passes ending (used ++ u) new
   passes_packet g reads other =
       let (rest, stream) = reads 0 used h.given h.rest h.reads in
@@ -125,41 +114,11 @@ cut_between old used given rest fault reads sound kind shut at =
 
 module _ (ending : Ending) (first mid : PacketReader) (chunk : List ℕ) (done : ℕ) (within : done ≤ length chunk)
     (so_far : (bytes : List ℕ) → Passes ending bytes first → Passes ending (bytes ++ take done chunk) mid) where
-  abbrev left_bytes : List ℕ
-  left_bytes = take (length chunk - done) (drop done chunk)
-
-  -- some more of it
-  pub passes_further : (new : PacketReader) (more : ℕ)
-      → ((bytes : List ℕ) → Passes ending bytes mid → Passes ending (bytes ++ take more left_bytes) new)
-      → (bytes : List ℕ) → Passes ending bytes first → Passes ending (bytes ++ take (done + more) chunk) new
-  passes_further new more on bytes h =
-      subst (λ (l : List ℕ). Passes ending l new) (joined bytes chunk done more within) (on (bytes ++ take done chunk) (so_far bytes h))
-
-  pub passed_further : (new : PacketReader) (more : ℕ)
-      → ((bytes : List ℕ) → Passes ending bytes mid → HasPassed ending (bytes ++ take more left_bytes) new)
-      → (bytes : List ℕ) → Passes ending bytes first → HasPassed ending (bytes ++ take (done + more) chunk) new
-  passed_further new more on bytes h =
-      subst (λ (l : List ℕ). HasPassed ending l new) (joined bytes chunk done more within) (on (bytes ++ take done chunk) (so_far bytes h))
-
-  pub breaks_further : (fault : Fault) (more : ℕ) → ((bytes : List ℕ) → Passes ending bytes mid → BreaksOff ending (bytes ++ take more left_bytes) fault)
-      → (bytes : List ℕ) → Passes ending bytes first → BreaksOff ending (bytes ++ take (done + more) chunk) fault
-  breaks_further fault more on bytes h =
-      subst (λ (l : List ℕ). BreaksOff ending l fault) (joined bytes chunk done more within) (on (bytes ++ take done chunk) (so_far bytes h))
-
-  -- what is left of the chunk shows a fault, and so the chunk does
-  pub shown_further : (fault : Fault) (more : ℕ) → ShownByFeed fault more left_bytes → ShownByFeed fault (done + more) chunk
-  shown_further fault more shown = record {
-    not_the_end = shown.not_the_end;
-    one_more = λ long. omega (arith, shown.one_more long, ap length (left_of chunk done within), length-drop done chunk);
-  }
-
-  -- nothing is left of it
-  pub passes_to_the_end : (new : PacketReader) (more : ℕ) → more ≡ length left_bytes
-      → ((bytes : List ℕ) → Passes ending bytes mid → Passes ending (bytes ++ take more left_bytes) new)
-      → (bytes : List ℕ) → Passes ending bytes first → Passes ending (bytes ++ chunk) new
-  passes_to_the_end new more all on bytes h =
-      let end : done + more ≡ length chunk = omega (arith, all, within, ap length (left_of chunk done within), length-drop done chunk) in
-      subst (λ (l : List ℕ). Passes ending (bytes ++ l) new) (take_all (done + more) chunk (omega (arith, end))) (passes_further new more on bytes h)
+  -- what some more of it means for all bytes
+  pub passes_further : (Holds : List ℕ → Type 0) (more : ℕ)
+      → ((bytes : List ℕ) → Passes ending bytes mid → Holds (bytes ++ take more (left_bytes chunk done)))
+      → (bytes : List ℕ) → Passes ending bytes first → Holds (bytes ++ take (done + more) chunk)
+  passes_further Holds more on bytes h = subst Holds (joined bytes chunk done more within) (on (bytes ++ take done chunk) (so_far bytes h))
 
 -- a chunk passed with this answer
 pub chunk_passed : (ending : Ending) (old new : PacketReader) (chunk : List ℕ) (end other : Option ℕ) → end ≡ other
@@ -198,14 +157,6 @@ pub record PassingSoFar (ending : Ending) (r : PacketReader) (waiting unused : L
   pub used : List ℕ
   pub uses : Uses used waiting unused reader
   pub passes : Passes ending used r
-
-pub passed_nothing : (ending : Ending) (r : PacketReader) (waiting : List ℕ) (left : Option (List ℕ)) → Reads r 0 [] [] []
-    → PassingSoFar ending r waiting waiting (flow left left)
-passed_nothing ending r waiting left reads = record {
-  used = [];
-  uses = record { came = []; read = Consumes-nil left; parts = append-nil waiting };
-  passes = record { given = []; rest = []; reads = reads; goes_on = tt };
-}
 
 module _ {ending : Ending} {old : PacketReader} {waiting unused : List ℕ} {reader : Flow} (s : PassingSoFar ending old waiting unused reader) where
   -- all that was left passes too

@@ -1,5 +1,5 @@
 -- A packet sent to a server, chunk by chunk.
-use Rattle.std.proofs.Common.{arith, ◌≡◌, ◌≢◌, ℕ, suc, ◌+◌, ◌-◌, ◌<◌, ◌≤◌, Bool, true, false}
+use Rattle.std.proofs.Common.{arith, ◌≡◌, ◌≢◌, ℕ, suc, ◌+◌, ◌<◌, ◌≤◌, Bool, true, false}
 use Rattle.std.proofs.Common.{cond, length, take, drop, min, List, [], ◌∷◌, ◌++◌, Some}
 use Rattle.std.proofs.Common.{refl, sym, ap, ◌∙◌, append_assoc, append-nil, length-drop, take-append-drop, inl, inr}
 use Rattle.std.proofs.Math.Seq.{take-add}
@@ -15,31 +15,28 @@ use Rattle.git_server.specs.Sessions.{Setting}
 use Rattle.git_server.specs.declared.outcome.Outcome.TheVariants.{Refused}
 use Rattle.git_server.specs.declared.server.Server.{Server}
 use Rattle.git2show_lib.specs.Machine.PlaySteps.{Stands}
+use Rattle.git2show_lib.proofs.ChunkParts.{left_bytes, left_length}
 
 -- ---- the next chunk of a packet
 
--- what is left of a packet after so many bytes, and the next chunk of it
-abbrev pub left_after : List ℕ → ℕ → List ℕ
-left_after packet done = take (length packet - done) (drop done packet)
-
 abbrev pub next_chunk : List ℕ → ℕ → ℕ → List ℕ
-next_chunk packet done k = take k (left_after packet done)
+next_chunk packet done k = take k (left_bytes packet done)
 
 module _ (packet : List ℕ) (done k u : ℕ) (within : done ≤ length packet) (few : u ≤ length (next_chunk packet done k)) where
   pub chunk_fits : done + u ≤ length packet
-  chunk_fits = omega (arith, few, length-take k (left_after packet done), ap length (left_of packet done within), length-drop done packet)
+  chunk_fits = omega (arith, few, length-take k (left_bytes packet done), left_length packet done within)
 
   pub chunk_joined : take done packet ++ take u (next_chunk packet done k) ≡ take (done + u) packet
   chunk_joined =
-      let front = take-take u k (left_after packet done) (omega (arith, few, length-take k (left_after packet done))) in
+      let front = take-take u k (left_bytes packet done) (omega (arith, few, length-take k (left_bytes packet done))) in
       ap (λ (l : List ℕ). take done packet ++ l) (front ∙ ap (take u) (left_of packet done within))
       ∙ sym (take-add done u packet)
 
 -- a chunk of some bytes is there while some are left
-pub chunk_some : (packet : List ℕ) (done k cut : ℕ) → done < length packet → 0 < cut → k ≡ min cut (length (left_after packet done))
+pub chunk_some : (packet : List ℕ) (done k cut : ℕ) → done < length packet → 0 < cut → k ≡ min cut (length (left_bytes packet done))
     → 0 < length (next_chunk packet done k)
 chunk_some packet done k cut less some is =
-    omega (arith, less, some, is, length-take k (left_after packet done), ap length (left_of packet done (omega (arith, less))), length-drop done packet)
+    omega (arith, less, some, is, length-take k (left_bytes packet done), left_length packet done (omega (arith, less)))
 
 -- what falls while one wants input, or stops wanting it
 abbrev pub turns_left : Bool → ℕ → ℕ
@@ -95,9 +92,8 @@ module _ {R A : Type 0} (state : R → RepoState) where
               absurd (omega (
                 arith,
                 less,
-                length-take k (left_after packet done),
-                ap length (left_of packet done within),
-                length-drop done packet,
+                length-take k (left_bytes packet done),
+                left_length packet done within,
                 ap length nothing,
                 length-drop (done + u) packet,
               ));

@@ -1,13 +1,12 @@
 -- A packet received by a client, chunk by chunk.
 use Rattle.std.proofs.Common.{arith, ◌≡◌, ℕ, ◌+◌, ◌≤◌, Bool, true, false, length, take, min, List, Option}
-use Rattle.std.proofs.Common.{Err, ap, length-drop}
+use Rattle.std.proofs.Common.{Err}
 use Rattle.std.proofs.lemmas.List.{length-take, take_min}
 use Rattle.git_pkt.specs.Streams.{flow}
 use Rattle.git_pkt.specs.Machine.PacketReader.{ShownByFeed}
 use Rattle.git_pkt.specs.declared.fault.Fault.{Fault}
 use Rattle.git_pkt.specs.declared.fault.RunFault.{RunFault}
 use Rattle.git_pkt.specs.declared.fault.RunFault.TheVariants.{ReadFault, WriteFault, ReadLimit, Refused}
-use Rattle.git_pkt.proofs.Chunks.{left_of}
 use Rattle.git_client.specs.Machine.Client.{phase_of, wants_input}
 use Rattle.git_client.specs.Machine.RunSteps.{ReceivesBytes, ReceivesChunkTo}
 use Rattle.git_client.specs.declared.client.Client.{Client}
@@ -15,7 +14,8 @@ use Rattle.git_client.specs.declared.receiving.Counts.{Counts}
 use Rattle.git_client.proofs.ReceivedBytes.{received_then}
 use Rattle.git_client.proofs.Phases.{not_ready_where_expected}
 use Rattle.git2show_lib.specs.Machine.PlaySteps.{silent}
-use Rattle.git2show_lib.proofs.PlayAnnouncing.{next_chunk, left_after, chunk_joined}
+use Rattle.git2show_lib.proofs.ChunkParts.{left_bytes, left_length}
+use Rattle.git2show_lib.proofs.PlayAnnouncing.{next_chunk, chunk_joined}
 
 module _ {A : Type 0} where
   module _ (packet : List ℕ) (done k : ℕ) (within : done ≤ length packet) (old b c : Client A) (counts now after : Counts)
@@ -32,13 +32,7 @@ module _ {A : Type 0} where
         → ShownByFeed fault (done + min u (length (next_chunk packet done k))) packet
     shown_on fault u shown = record {
       not_the_end = shown.not_the_end;
-      one_more = λ late. omega (
-        arith,
-        shown.one_more late,
-        length-take k (left_after packet done),
-        ap length (left_of packet done within),
-        length-drop done packet,
-      );
+      one_more = λ late. omega (arith, shown.one_more late, length-take k (left_bytes packet done), left_length packet done within);
     }
 
     -- the receiving of a chunk stopped

@@ -1,18 +1,12 @@
 -- Texts with shortened object names, and columns.
-use Rattle.std.proofs.Common.{◌≡◌, ℕ, ◌+◌, ◌-◌, ◌<◌, ◌≤◌, Bool, true, false, ◌==◌, ◌&&◌, max, suc, nat_le, List, [], ◌∷◌, ◌++◌, length, take, drop, slice_index}
+use Rattle.std.proofs.Common.{◌≡◌, ℕ, ◌+◌, ◌-◌, ◌<◌, ◌≤◌, Bool, true, false, ◌==◌, ◌&&◌, max, suc, nat_le, List, [], ◌∷◌, ◌++◌, length, take, drop}
 use Rattle.std.proofs.Common.{zero-add, refl, sym, ap, ◌∙◌, arith, append_assoc, if◌then◌else◌}
-use Rattle.std.proofs.lemmas.List.{drop_more, drop-drop, length-drop, take-take}
+use Rattle.std.proofs.lemmas.List.{drop-drop, length-drop, take-take}
 use Rattle.std.proofs.Math.Seq.{take-nil}
 use Rattle.std.proofs.lemmas.Bool.{leb-true, leb-false, eqb-true, eqb-false}
 use Rattle.std.proofs.lemmas.Grind.{common_steps}
 use Rattle.git_names.specs.Digits.{is_lower_digit}
 use Rattle.git2show_lib.specs.PrettyLines.{is_name_length, run_length, run_shown, shortened, shortened_after}
-
-pub run_step : (s : List ℕ) (i : ℕ) → i < length s → is_lower_digit (slice_index s i) ≡ true → run_length (drop i s) ≡ 1 + run_length (drop (i + 1) s)
-run_step s i below is = rw (drop_more s i 0 below, is) refl
-
-pub run_stop : (s : List ℕ) (i : ℕ) → i < length s → is_lower_digit (slice_index s i) ≡ false → run_length (drop i s) ≡ 0
-run_stop s i below is = rw (drop_more s i 0 below, is) refl
 
 -- what stays of a run that is read up to k
 abbrev stays : ℕ → Bool → List ℕ → List ℕ

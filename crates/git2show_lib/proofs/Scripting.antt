@@ -1,5 +1,5 @@
 -- What one more line adds to what is held of a script.
-use Rattle.std.proofs.Common.{arith, ◌≡◌, ℕ, ◌+◌, ◌-◌, ◌<◌, ◌≤◌, ◌==◌, true, false, Result, Ok, Err, List}
+use Rattle.std.proofs.Common.{arith, ◌≡◌, ℕ, ◌+◌, ◌-◌, ◌≤◌, ◌==◌, true, false, Result, Ok, Err, List}
 use Rattle.std.proofs.Common.{[], ◌∷◌, ◌++◌, Some, None, refl, ap, sym, ◌∙◌, subst, length, map, get_or, reverse, set}
 use Rattle.std.proofs.Common.{append_assoc, length-append}
 use Rattle.std.specs.Prelude.{MatchResult}
@@ -86,10 +86,6 @@ module _ {A : Type 0} where
   pub fits_of_passes : (offer : Offer) (last : Request A) (text : List ℕ) (arg : Arg) → ReadsAs (command_of last) offer text arg
       → length text ≤ longest_line → Passes (add_checks last arg) → FitsIn offer last text arg
   fits_of_passes offer last text arg reads short passes = record { reads = reads; short = short; fits = passes.1.0 }
-
-  -- a text that is longer than a line may be is no argument that fits
-  pub long_fits_none : (offer : Offer) (last : Request A) (text : List ℕ) → longest_line < length text → (arg : Arg) → FitsIn offer last text arg → ⊥
-  long_fits_none offer last text long arg fits = omega (arith, long, fits.short)
 
   pub holds_nothing : (offer : Offer) (limit : ℕ) → Holds {A = A} [] (nothing_held offer limit)
   holds_nothing offer limit = record { requests_are = refl; of_format = All-nil _; of_limit = All-nil _; open_as = refl }

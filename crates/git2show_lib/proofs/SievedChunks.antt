@@ -1,6 +1,6 @@
 -- What a client receives of a chunk whose packets are sieved.
-use Rattle.std.proofs.Common.{arith, ◌≡◌, ℕ, ◌+◌, ◌-◌, ◌≤◌, true, false, List, [], ◌∷◌, length, take, drop, Option, Some, None, Err}
-use Rattle.std.proofs.Common.{inr, sym, ap, ◌∙◌, subst, length-drop}
+use Rattle.std.proofs.Common.{arith, ◌≡◌, ℕ, ◌+◌, ◌≤◌, true, false, List, [], ◌∷◌, length, take, Option, Some, None, Err}
+use Rattle.std.proofs.Common.{inr, sym, ap, ◌∙◌, subst}
 use Rattle.git_pkt.specs.Packets.{Pkt}
 use Rattle.git_pkt.specs.Splits.{Given}
 use Rattle.git_pkt.specs.Streams.{Flow, flow}
@@ -9,7 +9,7 @@ use Rattle.git_pkt.specs.declared.fault.Fault.{Fault}
 use Rattle.git_pkt.specs.declared.fault.RunFault.{RunFault}
 use Rattle.git_pkt.specs.declared.fault.RunFault.TheVariants.{ReadFault, WriteFault, ReadLimit, Refused}
 use Rattle.git_pkt.specs.declared.reader.PacketReader.{PacketReader}
-use Rattle.git_pkt.proofs.Chunks.{left_of, take_joined}
+use Rattle.git_pkt.proofs.Chunks.{take_joined}
 use Rattle.git_client.specs.Machine.Client.{can_ask, wants_input}
 use Rattle.git_client.specs.declared.client.Client.{Client}
 use Rattle.git_client.specs.declared.receiving.Counts.{Counts}
@@ -17,6 +17,7 @@ use Rattle.git2show_lib.specs.Sieve.{spot_next}
 use Rattle.git2show_lib.specs.Machine.Sieving.{BreaksInChunk, EndsInChunk, Receives, ReceivesPacket, ReceivesTo, SievesInChunk, SievesOn, SievesChunkTo, Stage}
 use Rattle.git2show_lib.specs.declared.sieve.Form.{Form}
 use Rattle.git2show_lib.specs.declared.sieve.Spot.{Spot}
+use Rattle.git2show_lib.proofs.ChunkParts.{left_bytes, left_length, shown_further, within_further}
 use Rattle.git2show_lib.proofs.SievedPackets.{sieves_bytes, sieves_packet, sieves_then}
 
 module _ {A : Type 0} where
@@ -38,60 +39,54 @@ module _ {A : Type 0} where
 
   module _ (form : Form) (first middle : Stage A) (chunk : List ℕ) (done : ℕ) (within : done ≤ length chunk) {before held : Option (List ℕ)}
       (so_far : SievesOn form first middle (take done chunk) (flow before held)) (waits : wants_input middle.client ≡ true) where
-    abbrev pub left_bytes : List ℕ
-    left_bytes = take (length chunk - done) (drop done chunk)
+    abbrev left : List ℕ
+    left = left_bytes chunk done
 
     -- some more of the chunk was used
-    sieves_further : {new : Stage A} {after : Option (List ℕ)} (more : ℕ) → SievesOn form middle new (take more left_bytes) (flow held after)
+    sieves_further : {new : Stage A} {after : Option (List ℕ)} (more : ℕ) → SievesOn form middle new (take more left) (flow held after)
         → SievesOn form first new (take (done + more) chunk) (flow before after)
     sieves_further {new} {after} more step =
         subst (λ (l : List ℕ). SievesOn form first new l (flow before after)) (take_joined chunk done more within) (sieves_then so_far waits step)
 
-    pub within_further : (more : ℕ) → more ≤ length left_bytes → done + more ≤ length chunk
-    within_further more few = omega (arith, few, ap length (left_of chunk done within), length-drop done chunk)
-
     -- all of it, and no packet ended
-    pub chunk_used : (packets : PacketReader) (more : ℕ) → more ≡ length left_bytes → ReadsOn middle.packets (take more left_bytes) [] packets
+    pub chunk_used : (packets : PacketReader) (more : ℕ) → more ≡ length left → ReadsOn middle.packets (take more left) [] packets
         → reader_fault_of packets ≡ None → passes_of packets ≡ false
         → SievesInChunk form first (record middle { packets = packets }) chunk (done + more) (flow before held)
     chunk_used packets more all reads sound gathers = record {
-      sieves = sieves_further more (sieves_bytes form middle packets (take more left_bytes) held waits reads);
-      within = within_further more (omega (arith, all));
-      all = λ waits. omega (arith, all, within, ap length (left_of chunk done within), length-drop done chunk);
+      sieves = sieves_further more (sieves_bytes form middle packets (take more left) held waits reads);
+      within = within_further chunk done within more (omega (arith, all));
+      all = λ waits. omega (arith, all, within, left_length chunk done within);
       sound = sound;
       gathers = gathers;
       ends = λ ready. absurd (cc);
     }
 
     -- its bytes are no packet
-    pub chunk_breaks : (packets : PacketReader) (fault : Fault) (more : ℕ) → ReadsOn middle.packets (take more left_bytes) [] packets
-        → reader_fault_of packets ≡ Some fault → ShownByFeed fault more left_bytes
+    pub chunk_breaks : (packets : PacketReader) (fault : Fault) (more : ℕ) → ReadsOn middle.packets (take more left) [] packets
+        → reader_fault_of packets ≡ Some fault → ShownByFeed fault more left
         → BreaksInChunk fault form first (record middle { packets = packets }) chunk (flow before held)
     chunk_breaks packets fault more reads failed shown = record {
       used = done + more;
-      sieves = sieves_further more (sieves_bytes form middle packets (take more left_bytes) held waits reads);
+      sieves = sieves_further more (sieves_bytes form middle packets (take more left) held waits reads);
       waits = waits;
       failed = failed;
-      shown = record {
-        not_the_end = shown.not_the_end;
-        one_more = λ long. omega (arith, shown.one_more long, ap length (left_of chunk done within), length-drop done chunk);
-      };
+      shown = shown_further chunk done within fault more shown;
     }
 
     -- a packet was passed on
     pub packet_further : (other : Form) (new : Stage A) (after : Option (List ℕ)) (g : Given) (more : ℕ) → other ≡ form
-        → ReadsOn middle.packets (take more left_bytes) (g ∷ []) new.packets → new.spot ≡ spot_next other middle.spot g.packet
+        → ReadsOn middle.packets (take more left) (g ∷ []) new.packets → new.spot ≡ spot_next other middle.spot g.packet
         → ReceivesPacket other middle.spot g.packet middle.client new.client middle.counts new.counts (flow held after)
         → SievesOn form first new (take (done + more) chunk) (flow before after)
     packet_further other new after g more same reads spot_is step =
         sieves_further more
-        (sieves_packet form middle new (take more left_bytes) g (flow held after) reads
+        (sieves_packet form middle new (take more left) g (flow held after) reads
         (spot_is ∙ ap (λ (f : Form). spot_next f middle.spot g.packet) same)
         (subst (λ (f : Form). ReceivesPacket f middle.spot g.packet middle.client new.client middle.counts new.counts (flow held after)) same step))
 
     -- or ended the chunk
     pub packet_ends : (other : Form) (fault : RunFault) (new : Stage A) (after : Option (List ℕ)) (g : Given) (more : ℕ) → other ≡ form
-        → ReadsOn middle.packets (take more left_bytes) (g ∷ []) new.packets → reader_fault_of new.packets ≡ None → is_open new.packets ≡ false
+        → ReadsOn middle.packets (take more left) (g ∷ []) new.packets → reader_fault_of new.packets ≡ None → is_open new.packets ≡ false
         → ReceivesTo (Err fault) other middle.spot g middle.client new.client middle.counts new.counts (flow held after)
         → SievesChunkTo (Err fault) form first new chunk (flow before after)
     packet_ends other fault new after g more same reads sound shut step =
@@ -99,7 +94,7 @@ module _ {A : Type 0} where
           middle = middle;
           held = held;
           first = take done chunk;
-          last = take more left_bytes;
+          last = take more left;
           used = done + more;
           bytes = sym (take_joined chunk done more within);
           sieves = so_far;

@@ -1,6 +1,6 @@
 -- A client receives no more bytes than a response has.
-use Rattle.std.proofs.Common.{arith, ◌≡◌, ◌==◌, ℕ, ◌+◌, ◌≤◌, Bool, true, false, List, [], ◌∷◌, ◌++◌, length, if◌then◌else◌, Option, Some, None}
-use Rattle.std.proofs.Common.{Result, Ok, Err, refl, sym, ap, ◌∙◌, subst, length-append}
+use Rattle.std.proofs.Common.{arith, ◌==◌, ℕ, ◌+◌, ◌≤◌, Bool, true, false, List, [], ◌∷◌, ◌++◌, length, if◌then◌else◌, Option, Some, None}
+use Rattle.std.proofs.Common.{Result, Ok, Err, ap, length-append}
 use Rattle.std.proofs.lemmas.Grind.{flat_map-append}
 use Rattle.git_pkt.specs.Packets.{Pkt, flush, delim, resp_end, payload, body_of, spelling_of, text_of}
 use Rattle.git_pkt.specs.Splits.{Given, SpellsAll}
@@ -8,11 +8,8 @@ use Rattle.git_pkt.specs.declared.fault.Kind.{Kind}
 use Rattle.git_pkt.specs.declared.fault.Kind.TheVariants.{BadBand, RemoteFatal}
 use Rattle.git_pkt.proofs.Spelling.{spelled_length}
 use Rattle.git_client.specs.Machine.Client.{spelled}
-use Rattle.git_client.specs.declared.client.Client.{Client}
-use Rattle.git_pkt.specs.Streams.{Flow}
-use Rattle.git2show_lib.specs.Sieve.{is_error_line, is_on_band, passed_by, passed_delim, passed_of, passed_packet, passes_line, received_as, sieved}
+use Rattle.git2show_lib.specs.Sieve.{is_error_line, is_on_band, passed_by, passed_of, passed_packet, passes_line, received_as}
 use Rattle.git2show_lib.specs.Sieve.{sieved_from, sieved_packet, spot_next, unbanded, unbanded_line}
-use Rattle.git2show_lib.specs.Machine.Sieving.{Sieves}
 use Rattle.git2show_lib.specs.declared.sieve.Form.{Form}
 use Rattle.git2show_lib.specs.declared.sieve.Spot.{Spot}
 use Rattle.git2show_lib.specs.declared.sieve.Spot.TheVariants.{Header, Lines, Uris, AfterUris, Packfile}
@@ -93,9 +90,3 @@ sieved_within form spot p bytes (g ∷ gs) bad rest (s, more, is, at, first, lat
       ap length (flat_map-append spelling_of now (sieved_from form next gs)),
       length-append (spelled now) (spelled (sieved_from form next gs)),
     )
-
--- so what a client received of a response is no longer than what was used of it
-pub received_within : {A : Type 0} {broken : Bool} {form : Form} {old new : Client A} {used : List ℕ} {out : Flow} (s : Sieves broken form old new used out)
-    → length s.received ≤ length used
-received_within {form = form} {used = used} s =
-    omega (arith, sieved_within form Header 0 used s.given s.bad s.rest s.splits.spelled, ap length s.cut, length-append s.received s.beyond)

@@ -1,7 +1,6 @@
 -- What came for each request, one more at a time; its lines; and the offsets of faults in what passes between others.
-use Rattle.std.proofs.Common.{arith, ◌≡◌, ℕ, ◌+◌, ◌-◌, ◌≤◌, min, All, Bool, true, false, List, [], ◌∷◌, ◌++◌, length, Option, None, Some}
-use Rattle.std.proofs.Common.{refl, sym, ap, ◌∙◌, subst, append_assoc, append-nil, length-append}
-use Rattle.std.proofs.lemmas.List.Elements.{All-head, All-tail}
+use Rattle.std.proofs.Common.{arith, ◌≡◌, ℕ, ◌+◌, ◌-◌, min, List, [], ◌∷◌, ◌++◌, length, Option, None}
+use Rattle.std.proofs.Common.{refl, sym, ap, ◌∙◌, subst, append_assoc, append-nil}
 use Rattle.git_names.specs.declared.object_format.Format.{Format}
 use Rattle.git_pkt.specs.declared.fault.Fault.{Fault}
 use Rattle.git_msg.specs.Asked.{Asked}
@@ -10,7 +9,7 @@ use Rattle.git_client.specs.Parts.{Terms}
 use Rattle.git2show_lib.specs.OtherLines.{Question}
 use Rattle.git2show_lib.specs.Machine.CheckedStreams.{AreReceived, ComeInTurn, Received, MayCome, Turn, asked_in, bytes_in, events_in, known_of, moved}
 use Rattle.git2show_lib.specs.Machine.CheckedStreams.{Begun, events_shown, received_shown, lines_begun, passed_in, questions_in, received_in, turn_shown}
-use Rattle.git2show_lib.specs.Machine.CheckedStreams.{form_of, last_form, place_after, turns_shown, whole_of}
+use Rattle.git2show_lib.specs.Machine.CheckedStreams.{form_of, last_form, turns_shown, whole_of}
 
 -- ---- one more turn
 
@@ -98,25 +97,6 @@ module _ (r : Received) (turn : Turn) where
   }
 
 -- ---- offsets
-
--- where no more is received of each turn than comes, what comes after them begins after all of their bytes
-pub bytes_before : (opening : List ℕ) (turns : List Turn) → All (λ turn. length turn.received ≤ length turn.bytes) turns
-    → place_after opening turns ≡ length (opening ++ bytes_in turns)
-bytes_before opening turns within =
-    omega (arith, length-append opening (received_in turns), length-append opening (bytes_in turns), each turns within)
-  where
-    each : (turns : List Turn) → All (λ turn. length turn.received ≤ length turn.bytes) turns
-        → length (bytes_in turns) ≡ length (received_in turns) + passed_in turns
-    each [] within = refl
-    each (x ∷ turns) within =
-        let P : Turn → Type 0 = λ turn. length turn.received ≤ length turn.bytes in
-        omega (
-          arith,
-          All-head P x turns within,
-          each turns (All-tail P x turns within),
-          length-append x.bytes (bytes_in turns),
-          length-append x.received (received_in turns),
-        )
 
 -- a count that stops at the largest number counts on the same
 pub stops_once : (a b most : ℕ) → min (a + min b most) most ≡ min (a + b) most

@@ -57,6 +57,7 @@ impl Model for Lines {
 }
 
 impl Lines {
+    /// A buffer with no lines.
     pub(crate) fn new() -> Self
         ensures { result.waiting ≡ [] }
     {

@@ -248,6 +248,7 @@ fn word_passes(wanted: Option<&[u8]>, word: &[u8]) -> bool
     }
 }
 
+/// The key of a capability line, and its value: what stands before its first `=` and after it, or all of it and nothing.
 #[tactic(auto, using(crate::proofs::OtherLines::before_cut, crate::proofs::OtherLines::after_cut))]
 pub(crate) fn key_and_value(line: &[u8]) -> (&[u8], &[u8])
     ensures key { result.0.now ≡ key_of line.now }
@@ -259,6 +260,7 @@ pub(crate) fn key_and_value(line: &[u8]) -> (&[u8], &[u8])
     }
 }
 
+/// What stands before the first space of a line, or all of it.
 #[tactic(auto, using(crate::proofs::OtherLines::before_cut))]
 pub(crate) fn first_word(line: &[u8]) -> &[u8]
     ensures { result.now ≡ before_first (λ c. c == 32) line.now }

@@ -68,16 +68,6 @@ unwritten result held bytes sends answered =
     subst (λ (broken : Bool). WrittenAs broken (flow held held) bytes) (sym (broken_answer result sends.fault answered))
     (AppendsFront-longer held held [] bytes (written_whole true (flow held held) [] (written_nothing held)))
 
--- no bytes were put
-pub put_nothing : (broken : Bool) (held : Option (List ℕ)) (waiting bytes : List ℕ) → bytes ≡ [] → PutAs broken (flow held held) waiting bytes waiting
-put_nothing broken held waiting bytes none = record {
-  sent = [];
-  rest = waiting;
-  all = ap (λ (l : List ℕ). waiting ++ l) none ∙ append-nil waiting;
-  written = written_whole broken (flow held held) [] (written_nothing held);
-  waits = λ whole. refl;
-}
-
 pub put_then : {broken : Bool} {before held after : Option (List ℕ)} {s t x u v : List ℕ} → PutAs false (flow before held) s u t
     → PutAs broken (flow held after) t v x → PutAs broken (flow before after) s (u ++ v) x
 put_then {broken = broken} {before = before} {held = held} {after = after} {s = s} {t = t} {u = u} {v = v} one two = record {

@@ -308,6 +308,7 @@ impl<A: Allocator + Copy> Client<A> {
     }
 
     /// Uses bytes up to the end of a packet, or all of them; in the packfile section up to the last bytes of the chunk that pass.
+    #[inline(always)]
     fn take(&mut self, chunk: &[u8], steps: &mut Steps) -> Advance
         requires { wants_input self.old ≡ true }
         ensures cost { Pays result.used steps.old steps.new (credit_of (reader_of self.old)) (credit_of (reader_of self.new)) }
@@ -328,6 +329,7 @@ impl<A: Allocator + Copy> Client<A> {
     /// Uses bytes up to the end of a packet, or all of them.
     ///
     /// The bytes of a whole packet have paid for its steps.
+    #[inline(never)]
     fn take_packet(&mut self, expected: Expected, chunk: &[u8], steps: &mut Steps) -> Advance
         requires arrives { phase_of self.old ≡ Phase.Receiving expected }
         requires no_band { expected ≢ Expected.Packfile }
@@ -369,6 +371,7 @@ impl<A: Allocator + Copy> Client<A> {
     }
 
     /// Uses bytes of the packfile section: those that pass are returned as they come, and the contents of the last packet stay.
+    #[inline(always)]
     fn take_band(&mut self, chunk: &[u8], steps: &mut Steps) -> Advance
         requires arrives { phase_of self.old ≡ Phase.Receiving Expected.Packfile }
         ensures cost { Pays result.used steps.old steps.new (credit_of (reader_of self.old)) (credit_of (reader_of self.new)) }

@@ -1,6 +1,6 @@
 -- An admission from one report to the next.
 use Rattle.std.proofs.Common.{arith, ◌≡◌, ℕ, ◌+◌, ◌<◌, ◌≤◌, Bool, true, false, All, List, [], ◌∷◌, ◌++◌, length, map, take}
-use Rattle.std.proofs.Common.{Option, Some, None, refl, sym, ap, ◌∙◌, subst, inl, inr}
+use Rattle.std.proofs.Common.{Option, Some, refl, sym, ap, ◌∙◌, subst, inl, inr}
 use Rattle.std.proofs.lemmas.List.{take_all}
 use Rattle.std.proofs.lemmas.List.Elements.{All-nil, All-push}
 use Rattle.std.proofs.lemmas.Option.{slice_get_cases}
@@ -8,7 +8,7 @@ use Rattle.git_names.specs.ObjectName.{ObjectName}
 use Rattle.git_names.specs.declared.object_format.Format.{Format}
 use Rattle.git_msg.specs.Arguments.{Arg}
 use Rattle.git_msg.specs.Asked.{want_refs_in, wants_in}
-use Rattle.git_host.specs.Admissions.{AdmissionFacts, AtWant, AtWantRef, IsNotOurs, IsUnknownRef, StandsAtStep, all_there, nothing_reported}
+use Rattle.git_host.specs.Admissions.{AdmissionFacts, AtWant, AtWantRef, IsNotOurs, StandsAtStep, all_there, nothing_reported}
 use Rattle.git_host.specs.Admissions.{is_want_ref, reference_step, step_by, want_step, with_found, with_want}
 use Rattle.git_host.specs.declared.admission.AdmissionStep.{AdmissionStep}
 use Rattle.git_host.specs.declared.admission.AdmissionStep.TheVariants.{AskWant, AskWantRef, Admitted, Refused}
@@ -81,18 +81,6 @@ after_want at q a ids has is h = (
     within = h.within;
     wants = ap (λ (l : List Bool). l ++ has ∷ []) h.so_far ∙ ap (λ (b : Bool). all_there (take at (wants_in q)) ++ b ∷ []) is;
     none_found = h.none_found;
-  },
-)
-
-pub after_missing : (at : ℕ) (format : Format) (q : List Arg) (a : AdmissionFacts) (ids : List ObjectName) (id : Option ObjectName) → id ≡ None
-    → AtWantRef at format q a ids → (length ids ≤ length (want_refs_in q)) × IsUnknownRef q (with_found id a)
-after_missing at format q a ids id is h = (
-  omega (arith, h.within, h.so_far),
-  record {
-    ids = ids;
-    there = h.there;
-    within = omega (arith, h.within, h.so_far);
-    found = ap (λ (l : List (Option ObjectName)). l ++ id ∷ []) h.found ∙ ap (λ (x : Option ObjectName). map Some ids ++ x ∷ []) is;
   },
 )
 

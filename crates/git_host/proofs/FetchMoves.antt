@@ -32,7 +32,7 @@ use Rattle.git_host.specs.FetchPlaces.{AtDelimiter, AtHave, AtHeader, AtNak, AtP
 use Rattle.git_host.specs.FetchPlaces.{AtReady, AtShallow, AtShallowLine, AtWanted, AtWantedHeader}
 use Rattle.git_host.specs.FetchPlaces.{Holds, IsOpened, NoPack, NothingAfter, StandsAt, WhereNegotiating}
 use Rattle.git_host.specs.FetchPlaces.{acks_header, after_boundary, after_haves, place_by, shallow_so_far}
-use Rattle.git_host.specs.FetchPlaces.{is_line_at, is_ready_asked, step_at, with_boundary_end, with_have, with_line, with_pack, with_progress, with_ready}
+use Rattle.git_host.specs.FetchPlaces.{is_ready_asked, step_at, with_boundary_end, with_have, with_line, with_pack, with_progress, with_ready}
 use Rattle.git_host.specs.declared.fetch_answer.Place.{Place}
 use Rattle.git_host.specs.declared.fetch_answer.Place.TheVariants.{Header, Have, Nak, Ready, Delimiter, Shallow, ShallowLine, WantedHeader, Wanted, WantedEnd}
 use Rattle.git_host.specs.declared.fetch_answer.Place.TheVariants.{PackHeader, Pack, Whole as AtEnd, Broken as AtLoss}
@@ -205,11 +205,6 @@ no_pack_follows : (q : List Arg) (t : FetchFacts) (given : List Pkt) → negotia
 no_pack_follows q t given asks all is unready =
     subst (λ (b : Bool). IsFetchAnswerWhere b (readiness q t) whole q t (given ++ flush ∷ [])) (sym asks)
     (subst (λ (r : Option Bool). IsFetchAnswerWhere true r whole q t (given ++ flush ∷ [])) (sym unready) (all, ap (λ (l : List Pkt). l ++ flush ∷ []) is))
-
-pub after_alone : (q : List Arg) (t : FetchFacts) (given : List Pkt) → AtReady q t given → only_negotiates q ≡ true
-    → IsFetchAnswerOf whole q t (given ++ flush ∷ [])
-after_alone q t given h alone =
-    no_pack_follows q t given h.negotiates h.all h.given_is (ap (λ (b : Bool). if b then Some false else t.ready) alone)
 
 pub after_unready : (q : List Arg) (t : FetchFacts) (given : List Pkt) → AtReady q t given
     → IsFetchAnswerOf whole q (with_ready false t) (given ++ flush ∷ [])
@@ -509,21 +504,3 @@ asks_ready_at q PackHeader e = absurd (cc)
 asks_ready_at q Pack e = absurd (cc)
 asks_ready_at q AtEnd e = absurd (cc)
 asks_ready_at q AtLoss e = absurd (cc)
-
--- where no report is asked and no acknowledgment comes next, a line does
-pub line_at : (place : Place) → ((next : ℕ) (any : Bool) → place ≡ Have next any → ⊥) → ((any : Bool) → place ≡ Shallow any → ⊥) → (place ≡ Pack → ⊥)
-    → (place ≡ AtEnd → ⊥) → (place ≡ AtLoss → ⊥) → (place ≡ Header → ⊥) → (place ≡ Nak → ⊥) → (place ≡ Ready → ⊥) → is_line_at place ≡ true
-line_at Header a b c d e f g h = absurd (f refl)
-line_at (Have next any) a b c d e f g h = absurd (a next any refl)
-line_at Nak a b c d e f g h = absurd (g refl)
-line_at Ready a b c d e f g h = absurd (h refl)
-line_at Delimiter a b c d e f g h = refl
-line_at (Shallow any) a b c d e f g h = absurd (b any refl)
-line_at (ShallowLine line) a b c d e f g h = refl
-line_at WantedHeader a b c d e f g h = refl
-line_at (Wanted next) a b c d e f g h = refl
-line_at WantedEnd a b c d e f g h = refl
-line_at PackHeader a b c d e f g h = refl
-line_at Pack a b c d e f g h = absurd (c refl)
-line_at AtEnd a b c d e f g h = absurd (d refl)
-line_at AtLoss a b c d e f g h = absurd (e refl)

@@ -31,10 +31,6 @@ picked_false (b ∷ bs) [] = refl
 picked_false (true ∷ bs) (y ∷ ys) = ap (λ l. y ∷ l) (picked_false bs ys)
 picked_false (false ∷ bs) (y ∷ ys) = picked_false bs ys
 
--- no item was reported yet
-pub picked_none : {X : Type 0} (xs : List X) → picked [] xs ≡ []
-picked_none xs = refl
-
 pub not_empty_more : {X : Type 0} (xs : List X) (x : X) → is_empty (xs ++ x ∷ []) ≡ false
 not_empty_more [] x = refl
 not_empty_more (y ∷ ys) x = refl

@@ -3,6 +3,7 @@
 ghost use Rattle.std.specs.Prelude.{◌≡◌};
 ghost use Rattle.std.specs.Option.{option_map};
 ghost use Rattle.git_msg.specs.Asked.{arguments_in, command_asked};
+ghost use Rattle.git_msg.specs.Kept.{AreOf};
 ghost use Rattle.git_host.specs.HostLookups.{answered_by, asked_in};
 
 use crate::host_answer::HostAnswer;
@@ -35,9 +36,10 @@ impl<'a, A: Allocator + Copy> RequestAtHand<'a, A> {
         }
     }
 
-    /// Its arguments.
+    /// Its arguments. There is none of another command.
     pub fn arguments(&self) -> &KeptArguments<A>
-        ensures { result.now.asked ≡ arguments_in (asked_in self.now) }
+        ensures asked { result.now.asked ≡ arguments_in (asked_in self.now) }
+        ensures own { AreOf (command_asked (asked_in self.now)) result.now.asked }
     {
         match self {
             RequestAtHand::Asked(request) => request.arguments(),

@@ -3,29 +3,17 @@ use Rattle.std.proofs.Common.{arith, ◌≡◌, inl, inr, ℕ, zero, suc, ◌+�
 use Rattle.std.proofs.Common.{Result, Ok, Err, IfErr, IsTrue}
 use Rattle.std.proofs.Common.{List, [], ◌∷◌, ◌++◌, length, take, drop, take-append-drop, append_assoc, refl, sym, ap, ◌∙◌, subst}
 use Rattle.std.proofs.lemmas.List.{drop-drop, drop-take, length-take}
-use Rattle.std.specs.Io.KnownBytes.{Consumes, IsAtEnd, Keeps, prepend_known}
+use Rattle.std.specs.Io.KnownBytes.{Consumes, IsAtEnd, prepend_known}
 use Rattle.git_pkt.specs.Machine.Engine.{FailsAs, IsShownBy, IsSpent}
 use Rattle.git_pkt.specs.Machine.Recorded.{IsNew, inner_of, reads_of, has_ended, has_failed, has_wasted}
-use Rattle.git_pkt.specs.Streams.{flow, WrittenAs}
 use Rattle.git_pkt.specs.declared.fault.RunFault.{RunFault}
 use Rattle.git_pkt.specs.declared.fault.RunFault.TheVariants.{ReadFault, WriteFault, ReadLimit, Refused}
 use Rattle.git_pkt.specs.declared.recorded.Recorded.{Recorded}
 use Rattle.git_loop.specs.Moves.{ended_after, given_to, used_of}
-use Rattle.git_loop.specs.Streams.{Consumed, EndsAtItsEnd, InputState, KeepsOthers, Sends, one_input, one_output, recorded_input, window_of}
+use Rattle.git_loop.specs.Streams.{Consumed, EndsAtItsEnd, InputState, one_input, one_output, recorded_input, window_of}
 use Rattle.git_loop.specs.Machines.{AreReadToTheEnd, EndStates, EndsRun, IsWaiting, RanOne, RanOver, RunStates, States, WaitsFor}
 
 -- ---- the window
-
-pub read_kept : (before after : Option (List ℕ)) (bytes : List ℕ) → Consumes before after bytes
-    → Keeps (prepend_known [] before) (prepend_known bytes after)
-read_kept None after bytes read = tt
-read_kept (Some left) None bytes read = absurd read
-read_kept (Some left) (Some later) bytes read = sym read
-
-pub unread_kept : (before after : Option (List ℕ)) → Keeps before after → Keeps (prepend_known [] before) (prepend_known [] after)
-unread_kept None after kept = tt
-unread_kept (Some left) None kept = absurd kept
-unread_kept (Some left) (Some later) kept = kept
 
 pub window_used : (left : Option (List ℕ)) (window : List ℕ) (count : ℕ)
     → Consumes (prepend_known window left) (prepend_known (drop count window) left) (take count window)
@@ -68,26 +56,7 @@ read_all None after window bytes used = tt
 read_all (Some left) None window bytes used = absurd used
 read_all (Some left) (Some later) window bytes used = used ∙ sym (append_assoc bytes window later)
 
-pub others_input : (n : ℕ) (a b : InputState) → n ≡ 0 → KeepsOthers n (one_input a) (one_input b)
-others_input n a b first zero other = absurd (other (sym first))
-others_input n a b first (suc k) other = refl
-
 -- ---- what is sent
-
-pub sends_first : (broken : Bool) (to : ℕ) (bytes : List ℕ) (before after : Option (List ℕ)) → to ≡ 0 → WrittenAs broken (flow before after) bytes
-    → Sends broken to bytes (one_output before) (one_output after)
-sends_first broken to bytes before after first written = record {
-  written = subst (λ (n : ℕ). WrittenAs broken (flow (one_output before n) (one_output after n)) bytes) (sym first) written;
-  others = others;
-}
-  where
-    others : KeepsOthers to (one_output before) (one_output after)
-    others zero other = absurd (other (sym first))
-    others (suc k) other = refl
-
-pub flushes_first : (before after : Option (List ℕ)) → Keeps before after → (k : ℕ) → Keeps (one_output before k) (one_output after k)
-flushes_first before after kept zero = kept
-flushes_first before after kept (suc k) = tt
 
 -- ---- the end
 

@@ -116,9 +116,9 @@ AreOf command [] = Unit {0}
 AreOf command (word ∷ others) = ((row word).command ≡ command) × AreOf command others
 
 own_words : (command : Command) → AreOf command (words_of command)
-own_words LsRefs = (refl, (refl, (refl, (refl, tt))))
-own_words Fetch = (refl, (refl, (refl, (refl, (refl, (refl, (refl, (refl, (refl, (refl, (refl, (refl, (refl, (refl, (refl, tt)))))))))))))))
-own_words ObjectInfo = (refl, (refl, tt))
+own_words LsRefs = search
+own_words Fetch = search
+own_words ObjectInfo = search
 
 own_among : (command : Command) (order : List Word) (i : ℕ) (d : Word) → AreOf command order → i < length order → (row (get_or order i d)).command ≡ command
 own_among command [] i d of within = absurd (omega arith)

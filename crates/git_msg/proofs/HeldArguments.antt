@@ -3,7 +3,7 @@ use Rattle.std.proofs.Common.{arith, ◌≡◌, ℕ, ◌+◌, ◌<◌, ◌≤◌
 use Rattle.std.proofs.Common.{ap, append-nil, ◌∙◌, add-one, drop, drop-cons, get_or, length, if◌then◌else◌}
 use Rattle.std.specs.Prelude.{All, set, slice_get, sum_by}
 use Rattle.std.proofs.Common.{◌-◌, suc, zero}
-use Rattle.std.specs.List.{filter_map, flat_map}
+use Rattle.std.specs.List.{filter_map, flat_map, list_any}
 use Rattle.std.proofs.lemmas.List.{map-append}
 use Rattle.std.proofs.lemmas.List.Elements.{All-nil, All-cons, All-filter, All-map}
 use Rattle.std.proofs.lemmas.List.Sums.{sum_by-append}
@@ -19,7 +19,7 @@ use Rattle.git_msg.specs.declared.words.ObjectWord.{ObjectWord}
 use Rattle.git_msg.specs.declared.words.TextWord.{TextWord}
 use Rattle.git_msg.specs.declared.words.NumberWord.{NumberWord}
 use Rattle.git_msg.specs.Arguments.{Arg, alone, with_id, with_number, with_text, words}
-use Rattle.git_msg.specs.Asked.{is_word, is_of, last_counts, all_or_last, AreInOrder, flag_among, value_in}
+use Rattle.git_msg.specs.Asked.{is_given, is_word, is_of, last_counts, all_or_last, AreInOrder, flag_among, value_in}
 use Rattle.git_msg.specs.Asked.{id_of, ids, number, number_of, text_of, texts, where_asked, where_given, with_one}
 use Rattle.git_msg.specs.Machine.ArgumentLists.{held, held_at, ids_at, is_held, number_at, number_place, object_place, place_of}
 use Rattle.git_msg.specs.Machine.PlacedLists.{items_at, items_in, lists_of}
@@ -28,7 +28,7 @@ use Rattle.git_msg.specs.Machine.HeldTexts.{texts_of}
 use Rattle.git_msg.specs.Prefixes.{ShowAlike, is_shown}
 use Rattle.git_msg.specs.Texts.{last_of}
 use Rattle.git_msg.proofs.HeadWords.{itself, same_word}
-use Rattle.git_msg.proofs.PlacedLists.{nothing_at, replaced}
+use Rattle.git_msg.proofs.PlacedLists.{none_given, nothing_at, replaced}
 use Rattle.git_msg.proofs.WrittenArguments.{added, all_flat, any_of, by_value, found, in_order, is_some, same_lists, with_one_more}
 
 -- words are the same just where their places are
@@ -241,16 +241,12 @@ module _ {A : Type 0} (q : ArgumentLists A) where
 
   -- nothing is held in empty lists
   module _ (flags : (place : ℕ) → get_or q.flags.set place false ≡ false) (objects : items_in q.objects ≡ 0)
-      (texts : (word : TextWord) → texts_of q.texts word ≡ []) (numbers : q.numbers ≡ None ∷ None ∷ []) where
-    no_number : (word : NumberWord) → number_at q word ≡ None
-    no_number NumberWord.Deepen = rw numbers refl
-    no_number NumberWord.DeepenSince = rw numbers refl
-
+      (texts : (word : TextWord) → texts_of q.texts word ≡ []) (numbers : list_any is_given q.numbers ≡ false) where
     none_at : (word : Word) → held_at q word ≡ []
     none_at (of_flag flag) = ap (λ (set : Bool). where_asked set flag) (flags (place_of flag))
     none_at (of_object word) = ap (map (with_id word)) (nothing_at (map (λ v. v.items) (lists_of q.objects)) (object_place word) objects)
     none_at (of_text word) = ap (map (with_text word)) (texts word)
-    none_at (of_number word) = ap (where_given word) (no_number word)
+    none_at (of_number word) = ap (where_given word) (none_given q.numbers (number_place word) numbers)
 
     pub none_held : held q ≡ []
     unfolding held

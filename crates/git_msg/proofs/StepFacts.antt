@@ -8,14 +8,13 @@ use Rattle.git_pkt.specs.declared.fault.Kind.{Kind}
 use Rattle.git_pkt.specs.declared.fault.Kind.TheVariants.{TooMuchKept, UnexpectedPacket}
 use Rattle.git_msg.specs.declared.offers.Offer.{Offer}
 use Rattle.git_msg.specs.declared.arguments.Command.{Command}
-use Rattle.git_msg.specs.declared.arguments.Command.TheVariants.{LsRefs}
 use Rattle.git_msg.specs.declared.capability_key.Key.{Key}
 use Rattle.git_msg.specs.declared.capability_key.Key.TheVariants.{CommandKey}
 use Rattle.git_msg.specs.declared.requests.Request.{Request}
 use Rattle.git_msg.specs.declared.reader.Part.{Part}
 use Rattle.git_msg.specs.declared.reader.Part.TheVariants.{Capabilities, Arguments}
-use Rattle.git_msg.specs.declared.reader.ReadGot.TheVariants.{More, Request as Whole}
 use Rattle.git_msg.specs.declared.reader.RequestReader.{RequestReader}
+use Rattle.git_msg.specs.declared.reader.Taken.TheVariants.{More, Whole}
 use Rattle.git_msg.specs.Admission.{IsAdmitted}
 use Rattle.git_msg.specs.Arguments.{Arg}
 use Rattle.git_msg.specs.Asked.{asked_by}
@@ -168,7 +167,7 @@ module _ {A : Type 0} where
                 in_lines = subst (λ (x : Part). InLines x (lines ++ h.line ∷ []) new) (sym now)
                     (same_lines _ new _ h.new_is (noted_in (text_of bytes) h.line lines r h.is_line there));
               };
-          leaves = (ap fault_in now, new.bounded.within, tt);
+          leaves = ap fault_in now;
           offer = h.new_is.offer ∙ keeps_offer;
           limit = ap limit_of h.new_is.request ∙ keeps_limit;
         }
@@ -193,16 +192,14 @@ module _ {A : Type 0} where
         search (rules, in_capabilities, commands_expected, judged, nothing_but, by_itself, not_for_limit_by_end)
 
     -- the flush of a request without delimiter
-    pub flushed : (r new : RequestReader A) (c : Command) (q : Request A) → r.part ≡ Capabilities → IsExpected r c
-        → IsEmpty c r.offer.format (limit_in r) q → Passes (end_checks (asked_of q)) → IsEmpty LsRefs r.offer.format (limit_of q) new.request
-        → InCapabilities [] new → new.part ≡ Capabilities → new.offer ≡ r.offer → StepsOn barred r flush (Ok (Whole q)) new
-    flushed r new c q part expected empty passes next fresh now offer = search (rules, in_capabilities, commands_expected, judged, nothing_but)
+    pub flushed : (r : RequestReader A) (c : Command) (q : Request A) (bounded : IsBounded r.offer q) → r.part ≡ Capabilities → IsExpected r c
+        → IsEmpty c r.offer.format (limit_in r) q → Passes (end_checks (asked_of q))
+        → StepsOn barred r flush (Ok Whole) (record r { request = q; bounded = bounded })
+    flushed r c q bounded part expected empty passes = search (rules, in_capabilities, commands_expected, judged, nothing_but)
 
     -- the flush after the arguments
-    pub completed : (r new : RequestReader A) → r.part ≡ Arguments → Passes (end_checks (asked_of r.request))
-        → IsEmpty LsRefs r.offer.format (limit_in r) new.request → InCapabilities [] new → new.part ≡ Capabilities → new.offer ≡ r.offer
-        → StepsOn barred r flush (Ok (Whole r.request)) new
-    completed r new part passes next fresh now offer = search (rules, in_arguments)
+    pub completed : (r : RequestReader A) → r.part ≡ Arguments → Passes (end_checks (asked_of r.request)) → StepsOn barred r flush (Ok Whole) r
+    completed r part passes = search (rules, in_arguments)
 
     -- the flush after the arguments, refused for what the request asks for
     pub end_refused : (r : RequestReader A) (kind : Kind) → r.part ≡ Arguments → Refuses (end_checks (asked_of r.request)) kind
@@ -241,7 +238,7 @@ module _ {A : Type 0} where
                   (λ (x : Part). InLines x (lines ++ argument arg (length (text_of bytes)) ∷ []) (record r { request = q; bounded = bounded })) (sym part)
                   (one_more lines arg (length (text_of bytes)) r q bounded there keeps);
             };
-        leaves = (ap fault_in part, bounded.within, tt);
+        leaves = ap fault_in part;
         offer = refl;
         limit = keeps.limit;
       }

@@ -24,11 +24,6 @@ turned_le Less h = absurd (cc)
 turned_le Equal h = refl
 turned_le Greater h = refl
 
-turned_lt : (o : Ordering) → is_le o ≡ false → is_lt (ordering_reverse o) ≡ true
-turned_lt Less h = absurd (cc)
-turned_lt Equal h = absurd (cc)
-turned_lt Greater h = refl
-
 lt_le : (o : Ordering) → is_lt o ≡ true → is_le o ≡ true
 lt_le Less h = refl
 lt_le Equal h = absurd (cc)

@@ -2,6 +2,7 @@
 ghost use Rattle.std.specs.Prelude.{◌≡◌, false, slice_get};
 ghost use Rattle.std.specs.Option.{option_copied};
 
+use crate::arguments::Command;
 use crate::flags::Flag;
 use crate::kept::KeptArguments;
 use crate::ls_refs::LsRefs;
@@ -35,6 +36,7 @@ impl<A: Allocator + Copy> Model for Listing<A> {
 
 impl<A: Allocator + Copy> Listing<A> {
     ghost use Rattle.git_msg.specs.Asked.{flag_among, peel_in, ref_prefixes_in, symrefs_in, unborn_in};
+    ghost use Rattle.git_msg.specs.Kept.{AreOf};
     ghost use Rattle.git_msg.specs.Prefixes.{IsOrdered, OrdersPrefixes, SplitsAt, is_shown};
 
     /// Wraps the request, with its prefixes in the order in which they came.
@@ -49,7 +51,8 @@ impl<A: Allocator + Copy> Listing<A> {
 
     /// Its arguments.
     pub fn arguments(&self) -> &KeptArguments<A>
-        ensures { result.now.asked ≡ self.now.asked }
+        ensures value { result.now ≡ self.now }
+        ensures own { AreOf Command.LsRefs self.now.asked }
     {
         self.request.arguments()
     }

@@ -14,13 +14,16 @@ use git_names::Oid;
 use git_pkt::Kind;
 use std::alloc::Allocator;
 
+// How many words are before numbers.
+pub(crate) const NUMBERS: usize = 2;
+
 /// What is stored of a request's arguments: each word has a list, at its place.
 #[derive(Drop)]
 pub(crate) struct ArgumentLists<A: Allocator + Copy> {
     flags: FlagSet,
     objects: Lists<Oid, A>,
     texts: Texts<A>,
-    numbers: [Option<u64>; 2],
+    numbers: [Option<u64>; NUMBERS],
 }
 
 impl<A: Allocator + Copy> ArgumentLists<A> {
@@ -37,7 +40,7 @@ impl<A: Allocator + Copy> ArgumentLists<A> {
             flags: FlagSet::new(),
             objects: Lists::new(alloc),
             texts: Texts::new(alloc),
-            numbers: [None; 2],
+            numbers: [None; NUMBERS],
         }
     }
 

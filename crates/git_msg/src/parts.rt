@@ -20,7 +20,10 @@ use git_pkt::Kind;
 use std::alloc::Allocator;
 use std::cmp::Ordering;
 
-/// Four lists, each at its place. They are fields: an array of them would have a size that depends on the allocator.
+/// How many lists `Lists` has: one for each word before an object name, or before a text.
+pub(crate) const LISTS: usize = 4;
+
+/// Lists, each at its place. They are fields: an array of them would have a size that depends on the allocator.
 #[derive(Drop)]
 pub(crate) struct Lists<X: Copy, A: Allocator + Copy> {
     first: Vec<X, A>,
@@ -45,7 +48,7 @@ impl<X: Copy, A: Allocator + Copy> Lists<X, A> {
 
     /// The list at this place.
     pub(crate) fn at(&self, place: usize) -> &[X]
-        requires { place < 4 }
+        requires { place < LISTS }
         ensures { result.now ≡ items_at self.now place }
     {
         match place {
@@ -63,7 +66,7 @@ impl<X: Copy, A: Memory + Copy> Lists<X, A> {
     /// Adds an item to the list at this place; `OutOfMemory` if there is no memory for it.
     #[tactic(auto, using(crate::proofs::RefusedLists::refused_more))]
     pub(crate) fn push(&mut self, place: usize, item: X) -> Result<(), Kind>
-        requires { place < 4 }
+        requires { place < LISTS }
         ensures ok { OnOk result ((of : ℕ) → items_at self.new of ≡ items_at self.old of ++ where_same of place item) }
         ensures counted { OnOk result (items_in self.new ≡ items_in self.old + 1) }
         ensures err { OnErr result (((of : ℕ) → items_at self.new of ≡ items_at self.old of) × (items_in self.new ≡ items_in self.old)) }

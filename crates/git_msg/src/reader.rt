@@ -26,6 +26,17 @@ pub enum ReadGot<A: Allocator + Copy> {
     Failed(Fault),
 }
 
+// The effect of a packet that is not refused.
+#[derive(Clone, Copy, Debug)]
+enum Taken {
+    // It is part of the request that goes on.
+    More,
+    // The request is whole.
+    Whole,
+    // It ends the session.
+    Stop,
+}
+
 #[derive(Clone, Copy, Debug)]
 enum Part {
     Capabilities,
@@ -79,7 +90,7 @@ impl<A: Allocator + Copy> RequestReader<A> {
         }
     }
 
-    fn take_capability(&mut self, packet: Packet<'_>, steps: &mut Steps) -> Result<ReadGot<A>, Kind>
+    fn take_capability(&mut self, packet: Packet<'_>, steps: &mut Steps) -> Result<Taken, Kind>
         requires { self.old.part ≡ Part.Capabilities }
         ensures goes_on { (barred : Arg → Option Kind) → StepsOn barred self.old (seen packet.entry) result self.new }
         ensures cost { TakesAtMost (42 * (length (body_of (seen packet.entry)) + 1)) steps.old steps.new }
@@ -88,23 +99,23 @@ impl<A: Allocator + Copy> RequestReader<A> {
         match packet {
             Packet::Payload(payload) => {
                 self.note(text(payload), steps)?;
-                Ok(ReadGot::More)
+                Ok(Taken::More)
             }
             Packet::Delim => {
                 let command = self.command_expected()?;
                 self.request = self.empty_request(command);
                 self.part = Part::Arguments;
-                Ok(ReadGot::More)
+                Ok(Taken::More)
             }
             Packet::Flush => {
                 if !self.begun {
-                    return Ok(ReadGot::Stop);
+                    return Ok(Taken::Stop);
                 }
                 let command = self.command_expected()?;
                 let request = self.empty_request(command);
                 request.check_end()?;
                 self.request = request;
-                Ok(ReadGot::Request(self.restart()))
+                Ok(Taken::Whole)
             }
             Packet::RespEnd => Err(Kind::UnexpectedPacket),
         }
@@ -197,13 +208,13 @@ impl<A: Memory + Copy> RequestReader<A> {
         ensures covered { IsCovered result }
         ensures memory { fault_of self.old ≡ None → GotNeedsRefusal A.refuses (limit_in self.old) result }
     {
-        let step = match self.part {
-            Part::Failed(fault) => return ReadGot::Failed(fault),
-            Part::Capabilities => self.take_capability(packet, steps),
-            Part::Arguments => self.take_argument(admits, packet, steps),
-        };
-        match step {
-            Ok(got) => got,
+        if let Part::Failed(fault) = self.part {
+            return ReadGot::Failed(fault);
+        }
+        match self.step(admits, packet, steps) {
+            Ok(Taken::More) => ReadGot::More,
+            Ok(Taken::Whole) => ReadGot::Request(self.restart()),
+            Ok(Taken::Stop) => ReadGot::Stop,
             Err(kind) => {
                 let fault = Fault { kind, offset };
                 self.part = Part::Failed(fault);
@@ -212,12 +223,30 @@ impl<A: Memory + Copy> RequestReader<A> {
         }
     }
 
+    // Takes a packet while no fault has come.
+    fn step<B: Admits>(
+        &mut self,
+        admits: &B,
+        packet: Packet<'_>,
+        steps: &mut Steps,
+    ) -> Result<Taken, Kind>
+        requires { fault_of self.old ≡ None }
+        ensures goes_on { StepsOn (B.refused_as admits.now) self.old (seen packet.entry) result self.new }
+        ensures cost { TakesAtMost (42 * (length (body_of (seen packet.entry)) + 1)) steps.old steps.new }
+        ensures memory { IfErr result (NeedsRefusal A.refuses (limit_in self.old)) }
+    {
+        match self.part {
+            Part::Arguments => self.take_argument(admits, packet, steps),
+            _ => self.take_capability(packet, steps),
+        }
+    }
+
     fn take_argument<B: Admits>(
         &mut self,
         admits: &B,
         packet: Packet<'_>,
         steps: &mut Steps,
-    ) -> Result<ReadGot<A>, Kind>
+    ) -> Result<Taken, Kind>
         requires { self.old.part ≡ Part.Arguments }
         ensures goes_on { StepsOn (B.refused_as admits.now) self.old (seen packet.entry) result self.new }
         ensures cost { TakesAtMost (42 * (length (body_of (seen packet.entry)) + 1)) steps.old steps.new }
@@ -227,7 +256,7 @@ impl<A: Memory + Copy> RequestReader<A> {
             Packet::Payload(bytes) => self.take_line(admits, bytes, steps),
             Packet::Flush => {
                 self.request.check_end()?;
-                Ok(ReadGot::Request(self.restart()))
+                Ok(Taken::Whole)
             }
             Packet::Delim => Err(Kind::UnexpectedPacket),
             Packet::RespEnd => Err(Kind::UnexpectedPacket),
@@ -240,7 +269,7 @@ impl<A: Memory + Copy> RequestReader<A> {
         admits: &B,
         bytes: &[u8],
         steps: &mut Steps,
-    ) -> Result<ReadGot<A>, Kind>
+    ) -> Result<Taken, Kind>
         requires { self.old.part ≡ Part.Arguments }
         ensures goes_on { StepsOn (B.refused_as admits.now) self.old (payload bytes.now) result self.new }
         ensures cost { TakesAtMost (42 * (length bytes.now + 1)) steps.old steps.new }
@@ -257,6 +286,6 @@ impl<A: Memory + Copy> RequestReader<A> {
             return Err(kind);
         }
         self.request.push(&argument, text.len())?;
-        Ok(ReadGot::More)
+        Ok(Taken::More)
     }
 }

@@ -8,8 +8,10 @@ ghost use Rattle.git_msg.specs.Machine.TextPools.{text_place};
 
 use crate::arguments::Command;
 use crate::flags::Flag;
+use crate::lists::NUMBERS;
 use crate::numbers::read_number;
 use crate::offers::Offer;
+use crate::parts::LISTS;
 use crate::texts::{after, is_word};
 use git_names::{RefName, Steps};
 use git_pkt::Kind;
@@ -87,6 +89,12 @@ pub(crate) const WORDS: &[Word] = &[
     Word::Object(ObjectWord::ObjectId),
 ];
 
+// The index of the first word of `fetch`.
+const FETCH: usize = 4;
+
+// The index of the first word of `object-info`.
+const OBJECT_INFO: usize = 19;
+
 // The maximum length of a text that is kept.
 const MOST_TEXT: usize = 32_000;
 
@@ -97,12 +105,12 @@ impl Command {
     /// The words of the command, in the order in which their arguments are written.
     pub fn words(self) -> &'static [Word]
         ensures words { result.now ≡ words_of self }
-        ensures few { length result.now ≤ 15 }
+        ensures few { length result.now ≤ 24 }
     {
         match self {
-            Command::LsRefs => &WORDS[..4],
-            Command::Fetch => &WORDS[4..19],
-            Command::ObjectInfo => &WORDS[19..],
+            Command::LsRefs => &WORDS[..FETCH],
+            Command::Fetch => &WORDS[FETCH..OBJECT_INFO],
+            Command::ObjectInfo => &WORDS[OBJECT_INFO..],
         }
     }
 
@@ -112,7 +120,7 @@ impl Command {
         ensures parts { MatchOption result (IsNoArgument self text.now)
             (λ parts. ((row parts.0).command ≡ self) × (text.now ≡ line_of parts.0 parts.1.now)) }
         ensures shorter { IfSome result (λ parts. length parts.1.now ≤ length text.now) }
-        ensures cost { TakesAtMost (15 * (length text.now + 1)) steps.old steps.new }
+        ensures cost { TakesAtMost (24 * (length text.now + 1)) steps.old steps.new }
     {
         let words = self.words();
         steps.tick(words.len() * (text.len().min(LONGEST_WORD) + 1));
@@ -197,7 +205,7 @@ impl ObjectWord {
     /// The index of the word's list.
     pub(crate) fn place(self) -> usize
         ensures value { result ≡ object_place self }
-        ensures below { result < 4 }
+        ensures below { result < LISTS }
     {
         self as usize
     }
@@ -207,7 +215,7 @@ impl TextWord {
     /// The index of the word's list.
     pub(crate) fn place(self) -> usize
         ensures value { result ≡ text_place self }
-        ensures below { result < 4 }
+        ensures below { result < LISTS }
     {
         self as usize
     }
@@ -239,7 +247,7 @@ impl NumberWord {
     /// The index of the word's number.
     pub(crate) fn place(self) -> usize
         ensures value { result ≡ number_place self }
-        ensures below { result < 2 }
+        ensures below { result < NUMBERS }
     {
         self as usize
     }

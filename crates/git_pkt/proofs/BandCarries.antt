@@ -145,12 +145,6 @@ bands_stay reader start bytes given rest r = record {
   held = λ g is. absurd (cc);
 }
 
--- no bytes pass of the rest that the hold has
-none_passed_yet : (old : PacketReader) (start : ℕ) (bytes : List ℕ) (given : List Given) (rest : List ℕ) → fault_of old ≡ None → passes_of old ≡ false
-    → passed_by_rest (rest_of old) ≡ [] → Reads old start bytes given rest → passed_by_rest rest ≡ []
-none_passed_yet old start bytes given rest sound gathers none r =
-    sym (ap passed_by_rest (was_held old start bytes given rest sound gathers r)) ∙ none
-
 joined_to_nothing : (front back : List OnBand) → front ≡ [] → back ≡ [] → front ≡ back ++ []
 joined_to_nothing front back e f = e ∙ sym (ap (λ (l : List OnBand). l ++ []) f)
 

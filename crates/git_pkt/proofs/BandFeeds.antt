@@ -3,25 +3,23 @@ use Rattle.std.proofs.Common.{arith, ◌≡◌, ◌≢◌, ℕ, ◌+◌, ◌-◌
 use Rattle.std.proofs.Common.{Some, None, ap, sym, ◌∙◌, refl, subst, append_assoc, length-append}
 use Rattle.std.proofs.lemmas.List.{length-take-le, take-append-drop}
 use Rattle.std.proofs.Math.Seq.{take-append_seam, drop-append_seam}
-use Rattle.git_pkt.specs.Packets.{Spells, seen}
 use Rattle.git_pkt.specs.Passed.{begins_band, on}
-use Rattle.git_pkt.specs.Machine.PacketReader.{ShownByFeed, fault_of, held_of, passes_of, position_of}
+use Rattle.git_pkt.specs.Machine.PacketReader.{ShownByFeed, fault_of, held_of, passes_of}
 use Rattle.git_pkt.specs.Machine.PassedOut.{HandsOut, HasPart}
 use Rattle.git_pkt.specs.Machine.BandReader.{BandMoves, FeedsBand, HoldsFew, IsPart, MayPass, ReadsBandsOn}
 use Rattle.git_pkt.specs.declared.band.Band.{Band}
 use Rattle.git_pkt.specs.declared.band.Band.TheVariants.{Fatal}
 use Rattle.git_pkt.specs.declared.fault.Fault.{Fault}
-use Rattle.git_pkt.specs.declared.packet.Packet.{Packet}
 use Rattle.git_pkt.specs.declared.reader.BandFed.{BandFed}
 use Rattle.git_pkt.specs.declared.reader.BandGot.{BandGot}
-use Rattle.git_pkt.specs.declared.reader.BandGot.TheVariants.{More, Part as PartGot, Packet as PacketGot, Failed}
+use Rattle.git_pkt.specs.declared.reader.BandGot.TheVariants.{More, Part as PartGot, Failed}
 use Rattle.git_pkt.specs.declared.progress.BandProgress.{BandProgress}
 use Rattle.git_pkt.specs.declared.progress.BandProgress.TheVariants.{Open, Empty, Part, Whole, Failed as FailedStep}
 use Rattle.git_pkt.specs.declared.progress.Passed.{Passed}
 use Rattle.git_pkt.specs.declared.reader.PacketReader.{PacketReader}
 use Rattle.git_pkt.proofs.KnownRest.{gathered_rest}
-use Rattle.git_pkt.proofs.OpenLengths.{failed_counts_none, shut_counts_none, spelled_counts}
-use Rattle.git_pkt.proofs.BandCarries.{banded_body, bands_stay}
+use Rattle.git_pkt.proofs.OpenLengths.{failed_counts_none}
+use Rattle.git_pkt.proofs.BandCarries.{bands_stay}
 
 few_by : (r : PacketReader) (b : Bool) → passes_of r ≡ b → MayPass r → HoldsFew r
 few_by r true e may rest holds banded = omega (arith, (r.passing e).five)
@@ -90,28 +88,6 @@ module _ (old new : PacketReader) (chunk : List ℕ) (used : ℕ) (sound : fault
   has_part Empty m within = tt
   has_part Whole m within = tt
   has_part (FailedStep f) m within = tt
-
-  pub feeds_packet : (packet : Packet) (offset : ℕ) → BandMoves old chunk used Whole new → Spells (seen packet) (held_of new)
-      → offset ≡ position_of new - length (held_of new) → FeedsBand old chunk (record { used = used; got = PacketGot packet offset }) new
-  feeds_packet packet offset m spells at =
-      let after : offset + length (held_of new) ≡ position_of new = omega (arith, at, m.comes.behind) in
-      record {
-        reads = m.comes.goes (seen packet) offset spells after;
-        announces = (
-          m.comes.some,
-          m.comes.no_fault,
-          m.comes.closed,
-          spells,
-          after,
-          banded_body (seen packet) (held_of new) spells ∙ m.comes.on_no_band,
-        );
-        news = λ f was is. absurd (cc);
-        stays = λ f is. absurd (cc);
-        keeps = keeps;
-        counts = (omega (arith, m.comes.counts, spelled_counts (seen packet) (held_of new) spells), shut_counts_none new m.comes.closed);
-        passes = m.passes;
-        few = holds_few new m.passes;
-      }
 
   feeds_failed : (f : Fault) → BandMoves old chunk used (FailedStep f) new → FeedsBand old chunk (record { used = used; got = Failed f }) new
   feeds_failed f m = record {

@@ -1,15 +1,8 @@
 -- The steps and the credit of machines that read packets.
-use Rattle.std.proofs.Common.{arith, ◌≡◌, ℕ, ◌+◌, ◌*◌, ◌≤◌, List, [], ◌∷◌, length, length-append, subst, ap}
+use Rattle.std.proofs.Common.{arith, ℕ, ◌+◌, ◌*◌, ◌≤◌, List, [], ◌∷◌, length, length-append, ap}
 use Rattle.std.specs.Prelude.{flat_map, sum_by}
 use Rattle.std.proofs.lemmas.List.Sums.{sum_by-cons}
 use Rattle.git_pkt.specs.Machine.Credit.{ArePaid, MakesAll, Pays}
-use Rattle.git_pkt.specs.Machine.PacketReader.{Counts}
-use Rattle.git_pkt.specs.declared.reader.Got.{Got}
-use Rattle.git_pkt.specs.declared.reader.PacketReader.{PacketReader}
-
--- the count of a result, by its kind
-pub counts_by : (old new : PacketReader) (used : ℕ) (got same : Got) → got ≡ same → Counts old used got new → Counts old used same new
-counts_by old new used got same e h = subst (λ (g : Got). Counts old used g new) e h
 
 -- one call after another, if the bytes of the first have paid for it
 pub paid_on : (used more before middle after credit rest left : ℕ) → middle + rest ≤ before + credit + 64 * used → Pays used before middle credit rest

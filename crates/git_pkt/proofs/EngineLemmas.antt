@@ -1,11 +1,10 @@
 -- Lemmas for runs over a reader and a writer: the effect of each call on all bytes read and written so far.
-use Rattle.std.proofs.Common.{◌≡◌, ◌≤◌, ◌<◌, ℕ, ◌+◌, ◌-◌, length, take, drop, arith, List, [], ◌∷◌, ◌++◌, Option, Result, Err, IsErrAnd, MatchResult, refl, ap}
+use Rattle.std.proofs.Common.{◌≡◌, ◌<◌, ℕ, ◌+◌, ◌-◌, length, take, drop, arith, List, [], ◌∷◌, ◌++◌, Option, Result, Err, IsErrAnd, MatchResult, refl, ap}
 use Rattle.std.proofs.Common.{◌∙◌, sym, subst, append_assoc, append-nil, Bool, true, false}
 use Rattle.std.proofs.Math.Seq.{take-add}
-use Rattle.std.proofs.lemmas.List.{length-append, length-take-le}
 use Rattle.std.proofs.lemmas.Result.{err_from_is_err_and}
 use Rattle.std.specs.Io.KnownBytes.{Appends, Consumes, Keeps}
-use Rattle.std.proofs.KnownBytes.{Appends-nil, Appends-trans, Appends-kept, Consumes-nil, Consumes-trans, Consumes-kept}
+use Rattle.std.proofs.KnownBytes.{Appends-nil, Appends-trans, Appends-kept}
 use Rattle.git_pkt.specs.Streams.{AppendsFront, Flow, flow, StreamRelation, WrittenAs, Moves, IsTimely}
 use Rattle.git_pkt.specs.declared.fault.Kind.{Kind}
 use Rattle.git_pkt.specs.declared.fault.Kind.TheVariants.{Truncated, StreamTooLong}
@@ -58,49 +57,6 @@ pub record Moved (broken : Bool) (P : List ℕ → List ℕ → Type 0) (reader 
   pub stands : P came given
 
 module _ {P : List ℕ → List ℕ → Type 0} where
-  -- before the first call
-  pub moved_nothing : (left held : Option (List ℕ)) → P [] [] → Moved false P (flow left left) (flow held held)
-  moved_nothing left held stands = record { came = []; given = []; read = Consumes-nil left; written = written_nothing held; stands = stands }
-
-  -- the writer was flushed, or a flush failed
-  pub moved_flushed : (broken : Bool) {reader : Flow} {before held after : Option (List ℕ)} → Moved false P reader (flow before held) → Keeps held after
-      → Moved broken P reader (flow before after)
-  moved_flushed broken {reader} {before} {held} {after} so_far kept =
-      record {
-        came = so_far.came;
-        given = so_far.given;
-        read = so_far.read;
-        written = written_flushed broken before held after so_far.given so_far.written kept;
-        stands = so_far.stands;
-      }
-
-  -- a read failed
-  pub moved_unread : {broken : Bool} {writer : Flow} {before left after : Option (List ℕ)} → Moved broken P (flow before left) writer → Keeps left after
-      → Moved broken P (flow before after) writer
-  moved_unread so_far kept =
-      record {
-        came = so_far.came;
-        given = so_far.given;
-        read = Consumes-kept _ _ _ _ so_far.read kept;
-        written = so_far.written;
-        stands = so_far.stands;
-      }
-
-  -- some bytes were read, and others written for them, or a write failed
-  pub moved_on : (broken : Bool) (Q : List ℕ → List ℕ → Type 0) (bytes given : List ℕ)
-      {left_before left left_after held_before held held_after : Option (List ℕ)}
-      → ((came so_far : List ℕ) → P came so_far → Q (came ++ bytes) (so_far ++ given)) → Moved false P (flow left_before left) (flow held_before held)
-      → Consumes left left_after bytes → WrittenAs broken (flow held held_after) given
-      → Moved broken Q (flow left_before left_after) (flow held_before held_after)
-  moved_on broken Q bytes given {left_before} {left} {left_after} {held_before} {held} {held_after} carries so_far read written =
-      record {
-        came = so_far.came ++ bytes;
-        given = so_far.given ++ given;
-        read = Consumes-trans left_before left left_after so_far.came bytes so_far.read read;
-        written = written_then broken held_before held held_after so_far.given given so_far.written written;
-        stands = carries so_far.came so_far.given so_far.stands;
-      }
-
   -- the result of the run
   pub moves : {S : StreamRelation} {broken : Bool} {reader writer : Flow} → ((came given : List ℕ) → P came given → S (came ∷ []) (given ∷ []))
       → Moved broken P reader writer → Moves broken S (reader ∷ []) (writer ∷ [])
@@ -125,10 +81,6 @@ pub holds_at_fault : {T : Type 0} (r : Result T RunFault) (fault : RunFault) (Q 
 holds_at_fault r fault Q Until met until =
     let (e, is, same) = err_from_is_err_and r met in
     subst (λ x. MatchResult x Q Until) (sym is) (subst Until (sym same) until)
-
--- one more read returned some bytes
-pub brings_more : (count n : ℕ) (came chunk : List ℕ) → count ≤ length came → n ≤ length chunk → 0 < n → count + 1 ≤ length (came ++ take n chunk)
-brings_more count n came chunk so_far within some = omega (arith, so_far, some, length-append came (take n chunk), length-take-le n chunk within)
 
 -- an error that the bytes of a chunk show is reported in time
 pub timely : (kind : Kind) (ended : Bool) (unused : List ℕ) → (kind ≡ Truncated → ⊥) → (kind ≡ StreamTooLong → 0 < length unused)

@@ -50,6 +50,7 @@ pub(crate) struct BandStep {
 
 impl BandStep {
     /// What a call returns after this progress over the chunk, if no packet is in the hold.
+    #[inline(always)]
     pub(crate) fn fed<'a>(self, chunk: &'a [u8]) -> BandFed<'a>
         requires part { HasPart self.progress self.used }
         requires all { self.used ≤ length chunk.now }

@@ -195,6 +195,7 @@ impl PacketReader {
     /// Reads on in a section of side bands, as [`feed`](PacketReader::feed) does, except for bytes of the pack and of the
     /// progress: these pass as they come, and the hold has only the first five bytes of their packets. Such a packet with no
     /// byte on its band gives nothing. The call that began a packet reads it on.
+    #[inline(always)]
     pub fn feed_band<'a>(&'a mut self, chunk: &'a [u8], steps: &mut Steps) -> BandFed<'a>
         requires passes { MayPass self.old }
         ensures* after { sem 𝓛 (Rests the_row self.entry (λ new. FeedsBand self.old chunk.now result new)) }
@@ -293,8 +294,32 @@ impl PacketReader {
         }
     }
 
-    /// Steps over the chunk, up to the first that gives something.
+    /// Steps over the chunk, up to the first that gives something. If the chunk begins with all of a packet whose bytes pass, that is the first
+    /// step, and it is inlined into the loop that reads a pack; any other is left to a call.
+    #[inline(always)]
     fn band_steps(&mut self, chunk: &[u8], steps: &mut Steps) -> BandStep
+        requires sound { fault_of self.old ≡ None }
+        requires passes { MayPass self.old }
+        ensures used { result.used ≤ length chunk.now }
+        ensures some { result.progress ≢ BandProgress.Empty }
+        ensures moves { BandMoves self.old chunk.now result.used result.progress self.new }
+        ensures keeps { result.used ≡ 0 → held_of self.new ≡ held_of self.old }
+        ensures cost { TakesAtMost (8 * (result.used + 1)) steps.old steps.new }
+    {
+        if !self.is_open() {
+            if let Some(part) = self.pass_at_once(chunk, steps) {
+                return BandStep {
+                    used: part.count + 5,
+                    progress: BandProgress::Part(part),
+                };
+            }
+        }
+        self.steps_between(chunk, steps)
+    }
+
+    /// Steps over the chunk, up to the first that gives something.
+    #[inline(never)]
+    fn steps_between(&mut self, chunk: &[u8], steps: &mut Steps) -> BandStep
         requires sound { fault_of self.old ≡ None }
         requires passes { MayPass self.old }
         ensures used { result.used ≤ length chunk.now }
@@ -340,6 +365,7 @@ impl PacketReader {
     }
 
     /// The bytes that pass of the packet that the chunk begins with, if the chunk has all of it and some of its bytes pass.
+    #[inline(always)]
     fn pass_at_once(&mut self, chunk: &[u8], steps: &mut Steps) -> Option<Passed>
         requires sound { fault_of self.old ≡ None }
         requires between { is_open self.old ≡ false }

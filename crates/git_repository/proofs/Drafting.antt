@@ -1,13 +1,13 @@
 -- What one more line adds to what the lines before it contain.
 use Rattle.std.proofs.Common.{arith, ◌≡◌, ℕ, ◌≤◌, Bool, true, false, Option, Some, None, List, [], ◌∷◌, ◌++◌, refl, ap, sym, ◌∙◌, subst, append_assoc}
-use Rattle.std.proofs.Common.{length, map, codes, Vec}
+use Rattle.std.proofs.Common.{length, map, codes}
 use Rattle.std.specs.List.{cons_option, filter_map}
 use Rattle.std.specs.Option.{IfSome, is_some}
 use Rattle.std.specs.Prelude.{All, if◌then◌else◌}
 use Rattle.std.proofs.lemmas.List.{append-nil, map-append}
 use Rattle.std.proofs.lemmas.List.Elements.{All-push, filter_map-append}
 use Rattle.git_names.specs.ObjectName.{ObjectName}
-use Rattle.git_server.specs.Repository.{Entry, IsNamed, IsOfFormat, bytes_of, comes_before}
+use Rattle.git_server.specs.Repository.{Entry, IsNamed, IsOfFormat, comes_before}
 use Rattle.git_server.specs.Objects.{AreRising, object_of, precedes}
 use Rattle.git_server.specs.Lists.{AreOfFormat, Lists}
 use Rattle.git_repository.specs.Packs.{no_packs}
@@ -159,8 +159,3 @@ pub pushed : {X : Type 0} (P : List X → Type 0) (came : Bool) (old new : List 
     → P old → P (old ++ last ∷ []) → P new
 pushed P true old new last is before after = rw is after
 pushed P false old new last is before after = rw is before
-
--- whether a copy of bytes is there
-pub is_some_bytes : {A : Type 0} (bytes : Option (Vec ℕ A)) → is_some (bytes_of bytes) ≡ is_some bytes
-is_some_bytes None = refl
-is_some_bytes (Some copy) = refl

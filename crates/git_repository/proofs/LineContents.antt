@@ -14,8 +14,8 @@ use Rattle.git_msg.specs.declared.Boundary.TheVariants.{Shallow, Unshallow}
 use Rattle.git_msg.specs.Texts.{Follows, last_of}
 use Rattle.git_msg.proofs.ReferenceFaults.{reference_or_fault}
 use Rattle.git_pkt.specs.declared.fault.Kind.{Kind}
-use Rattle.git_msg.specs.References.{Ref, IsMaybeObjectName, IsReferenceFault, IsReferenceLine, reference_of, values_of}
-use Rattle.git_repository.specs.RepositoryLines.{LineContent, reference, unborn, object, ready, boundary, IsSizedObject, IsUnbornHeadOf}
+use Rattle.git_msg.specs.References.{Ref, IsMaybeObjectName, IsReferenceFault, IsReferenceLine, values_of}
+use Rattle.git_repository.specs.RepositoryLines.{LineContent, reference, unborn, object, ready, boundary, IsSizedObject}
 use Rattle.git_repository.specs.RepositoryLines.{HasContent, HasNoContent, ReadsReference, ref_of, shown, unborn_ref}
 use Rattle.git_repository.specs.declared.repository_lines.Item.{Item}
 
@@ -64,36 +64,6 @@ refused_has_no_content format text kind fault (unborn target) is = reference_or_
 refused_has_no_content format text kind fault (object id size) is = is
 refused_has_no_content format text kind fault (ready count) is = is
 refused_has_no_content format text kind fault (boundary line) is = is
-
--- a line of a reference without an object is not that of one with an object
-pub without_object : (format : Format) (text : List ℕ) (ref : Ref) → ref.id ≡ None → IsReferenceLine format text ref
-    → (entry : Entry) → IsReferenceLine format text (ref_of entry) → ⊥
-without_object format text ref none is entry also =
-    let same : ref.id ≡ Some entry.id = ap (λ (r : Ref). r.id) (one_reference format text ref (ref_of entry) is also) in
-    cc (none, same)
-
--- nor an unborn `HEAD`, where its parts are not those of one
-pub strange_conveys_none : (format : Format) (text name : List ℕ) (target : Option (List ℕ)) (peeled : Option ObjectName)
-    → IsReferenceLine format text (reference_of None name target peeled) → ((head : List ℕ) → IsUnbornHeadOf name target peeled head → ⊥)
-    → (content : LineContent) → ReadsReference format text content → ⊥
-strange_conveys_none format text name target peeled is strange (reference entry) also =
-    without_object format text (reference_of None name target peeled) refl is entry also
-strange_conveys_none format text name target peeled is strange (unborn head) also =
-    let same = one_reference format text (reference_of None name target peeled) (unborn_ref head) is also in
-    strange head (record { is_head = ap (λ (r : Ref). r.name) same; points = ap (λ (r : Ref). r.target) same; no_peeled = ap (λ (r : Ref). r.peeled) same })
-strange_conveys_none format text name target peeled is strange (object id size) also = also
-strange_conveys_none format text name target peeled is strange (ready count) also = also
-strange_conveys_none format text name target peeled is strange (boundary line) also = also
-
--- and it is one where they are
-pub unborn_conveys : (format : Format) (text name : List ℕ) (target : Option (List ℕ)) (peeled : Option ObjectName) (head : List ℕ)
-    → IsReferenceLine format text (reference_of None name target peeled) → IsUnbornHeadOf name target peeled head
-    → IsReferenceLine format text (unborn_ref head)
-unborn_conveys format text name target peeled head is parts =
-    subst (λ (r : Ref). IsReferenceLine format text r)
-    (ap (λ (n : List ℕ). reference_of None n target peeled) parts.is_head
-    ∙ ap (λ (t : Option (List ℕ)). reference_of None (codes "HEAD") t peeled) parts.points
-    ∙ ap (λ (p : Option ObjectName). reference_of None (codes "HEAD") (Some head) p) parts.no_peeled) is
 
 -- the entry whose line this is
 entry_with : ObjectName → Ref → Entry

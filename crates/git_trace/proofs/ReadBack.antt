@@ -35,12 +35,6 @@ by eleven n a b c =
     then record { byte = a * 8 + b; digits = 2 }
     else (if nat_lt a 8 then record { byte = a; digits = 1 } else record { byte = 92; digits = 0 })))
 
-is_by : (text : List ℕ) → escape_at text ≡ by (has_eleven text) (three_at text 8) (octal_at text 0) (octal_at text 1) (octal_at text 2)
-is_by text = refl
-
-by_none : (n b c : ℕ) → by false n 8 b c ≡ record { byte = 92; digits = 0 }
-by_none n b c = refl
-
 by_one : (n a c : ℕ) → a < 8 → by false n a 8 c ≡ record { byte = a; digits = 1 }
 by_one n a c below = grind (arith)
 

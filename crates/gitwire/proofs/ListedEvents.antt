@@ -149,60 +149,47 @@ listed_more old mid new chunk events buffer used count texts filled next written
       buffer_is = filled_more buffer h.bytes (copied_of gives.event) written then texts h.long h.buffer_is gives.buffer_is;
     }
 
--- the calls stop after an event, since a request can be asked
-pub stopped_turn : (old last : Client Global) (chunk : List ℕ) (events : List GitwireEvent) (buffer : List ℕ) (used count texts : ℕ) (answer : GitwireAnswer)
-    (filled : List GitwireEvent) (written : List ℕ) → ListedSoFar old chunk events buffer last used count texts filled written
-    → used ≤ length chunk → count ≤ length events → texts ≤ length buffer → 0 < count → can_ask last ≡ true
-    → answer ≡ answering_packet used 0 count What.CanAsk → ListsEvents old chunk events buffer answer filled written last
-stopped_turn old last chunk events buffer used count texts answer filled written h within places fits some ready is =
-    let pauses : Pauses last used count (length events) texts (length buffer) answer last = record {
-      some = some;
-      turn = λ _. is;
-      full = λ not. absurd cc;
-      why = λ not. absurd cc;
-      stays = refl;
-    } in
-    record {
-      listed = h.listed;
-      texts = h.bytes;
-      end = used;
-      last = last;
-      feeds = h.feeds;
-      ends = inl (rw (h.counts, h.long) at pauses);
-      within = omega (arith, ap (λ (a : GitwireAnswer). a.used) is, within);
-      count_fits = omega (arith, h.counts, places);
-      texts_fit = omega (arith, h.long, fits);
-      events_are = h.events_are;
-      buffer_is = h.buffer_is;
-    }
+-- no more calls are made, since a request can be asked
+pub paused_turn : (last : Client Global) (used count most texts size : ℕ) (answer : GitwireAnswer) → 0 < count → can_ask last ≡ true
+    → answer ≡ answering_packet used 0 count What.CanAsk → Pauses last used count most texts size answer last
+paused_turn last used count most texts size answer some ready is = record {
+  some = some;
+  turn = λ _. is;
+  full = λ not. absurd cc;
+  why = λ not. absurd cc;
+  stays = refl;
+}
 
--- the calls stop after an event, since there is no place for a further one
-pub stopped_full : (old last : Client Global) (chunk : List ℕ) (events : List GitwireEvent) (buffer : List ℕ) (used count texts : ℕ) (answer : GitwireAnswer)
+-- no more calls are made, since there is no place for a further event
+pub paused_full : (last : Client Global) (used count most texts size : ℕ) (answer : GitwireAnswer) → 0 < count → can_ask last ≡ false
+    → (count ≡ most) ⊎ (size < texts + longest_payload) → answer ≡ answering_packet used 0 count What.More
+    → Pauses last used count most texts size answer last
+paused_full last used count most texts size answer some ready why is = record {
+  some = some;
+  turn = λ can. absurd cc;
+  full = λ _. is;
+  why = λ _. why;
+  stays = refl;
+}
+
+-- the calls stop after an event
+pub stopped : (old last : Client Global) (chunk : List ℕ) (events : List GitwireEvent) (buffer : List ℕ) (used count texts : ℕ) (answer : GitwireAnswer)
     (filled : List GitwireEvent) (written : List ℕ) → ListedSoFar old chunk events buffer last used count texts filled written
-    → used ≤ length chunk → count ≤ length events → texts ≤ length buffer → 0 < count → can_ask last ≡ false
-    → (count ≡ length events) ⊎ (length buffer < texts + longest_payload)
-    → answer ≡ answering_packet used 0 count What.More → ListsEvents old chunk events buffer answer filled written last
-stopped_full old last chunk events buffer used count texts answer filled written h within places fits some ready why is =
-    let pauses : Pauses last used count (length events) texts (length buffer) answer last = record {
-      some = some;
-      turn = λ can. absurd cc;
-      full = λ _. is;
-      why = λ _. why;
-      stays = refl;
-    } in
-    record {
-      listed = h.listed;
-      texts = h.bytes;
-      end = used;
-      last = last;
-      feeds = h.feeds;
-      ends = inl (rw (h.counts, h.long) at pauses);
-      within = omega (arith, ap (λ (a : GitwireAnswer). a.used) is, within);
-      count_fits = omega (arith, h.counts, places);
-      texts_fit = omega (arith, h.long, fits);
-      events_are = h.events_are;
-      buffer_is = h.buffer_is;
-    }
+    → used ≤ length chunk → count ≤ length events → texts ≤ length buffer → answer.used ≡ used
+    → Pauses last used count (length events) texts (length buffer) answer last → ListsEvents old chunk events buffer answer filled written last
+stopped old last chunk events buffer used count texts answer filled written h within places fits is pauses = record {
+  listed = h.listed;
+  texts = h.bytes;
+  end = used;
+  last = last;
+  feeds = h.feeds;
+  ends = inl (rw (h.counts, h.long) at pauses);
+  within = omega (arith, is, within);
+  count_fits = omega (arith, h.counts, places);
+  texts_fit = omega (arith, h.long, fits);
+  events_are = h.events_are;
+  buffer_is = h.buffer_is;
+}
 
 -- one more call gives no event
 pub stopped_none : (old last new : Client Global) (chunk : List ℕ) (events : List GitwireEvent) (buffer : List ℕ) (used count texts : ℕ)

@@ -3,9 +3,10 @@ use Rattle.std.specs.Prelude.{ℕ, Bool, true, false}
 use Rattle.git_pkt.specs.FaultNames.{kind_number}
 use Rattle.git_pkt.specs.declared.fault.Fault.{Fault}
 use Rattle.git_client.specs.declared.event_parts.EventKind.{EventKind}
+use Rattle.git_server.specs.declared.outcome.Outcome.{Outcome}
 use Rattle.gitwire.specs.declared.answer.GitwireAnswer.{GitwireAnswer}
 use Rattle.gitwire.specs.declared.answer.What.{What}
-use Rattle.gitwire.specs.declared.answer.What.TheVariants.{Done, More, Failed, NoHandle, BufferTooSmall, NotNow, OutOfMemory, BadValue, Nothing}
+use Rattle.gitwire.specs.declared.answer.What.TheVariants.{Done, More, Failed, NoRequest, BufferTooSmall, NotNow, OutOfMemory, BadValue, Nothing}
 use Rattle.gitwire.specs.declared.answer.What.TheVariants.{Payload, Flush, Delim, ResponseEnd, Request, Stop, Packet, NeedInput, EndedByFlush}
 use Rattle.gitwire.specs.declared.answer.What.TheVariants.{EndedByClose, CanAsk, Finished, Event}
 use Rattle.gitwire.specs.declared.answer.What.TheVariants.{Asked, NeedWant, NeedWantRef, NeedHave, NeedReady, NeedBoundary, NeedPack, NeedReference, NeedSize}
@@ -16,7 +17,7 @@ abbrev pub what_number : What → ℕ
 what_number Done = 0
 what_number More = 1
 what_number Failed = 2
-what_number NoHandle = 3
+what_number NoRequest = 3
 what_number BufferTooSmall = 4
 what_number NotNow = 5
 what_number OutOfMemory = 6
@@ -79,3 +80,9 @@ answering_packet used offset filled what = record { used = used; offset = offset
 -- a refusal
 abbrev pub answering_fault : ℕ → Fault → GitwireAnswer
 answering_fault used fault = record { used = used; offset = fault.offset; length = 0; kind = what_number Failed; fault = kind_number fault.kind }
+
+-- the end of a session
+abbrev pub ending : Outcome → GitwireAnswer
+ending Outcome.Flush = answering EndedByFlush
+ending Outcome.Closed = answering EndedByClose
+ending (Outcome.Refused fault) = answering_fault 0 fault

@@ -3,11 +3,11 @@ use Rattle.std.specs.Prelude.{◌≡◌, ℕ, List, Option, Some, None, IsSomeAn
 use Rattle.gitwire.specs.Answers.{answering}
 use Rattle.gitwire.specs.declared.answer.GitwireAnswer.{GitwireAnswer}
 use Rattle.gitwire.specs.declared.answer.What.{What}
-use Rattle.gitwire.specs.declared.answer.What.TheVariants.{Done, NoHandle, OutOfMemory}
+use Rattle.gitwire.specs.declared.answer.What.TheVariants.{Done, NoRequest, OutOfMemory}
 
 -- the handle has nothing: that is reported, and the buffer is unchanged
 abbrev pub HasNone : List ℕ → GitwireAnswer → List ℕ → Type 0
-HasNone buffer answer filled = (answer ≡ answering NoHandle) × (filled ≡ buffer)
+HasNone buffer answer filled = (answer ≡ answering NoRequest) × (filled ≡ buffer)
 
 module _ {X : Type 0} where
   -- the handle has the value; or memory ran out, and it has none

@@ -101,7 +101,7 @@ pub record FeedsInBuffer (old : Client Global) (chunk buffer : List ℕ) (answer
 
 -- the handle has nothing: that is reported, and the buffer is unchanged
 abbrev pub ReceivesNone : List ℕ → GitwireEvent → List ℕ → Type 0
-ReceivesNone buffer answer filled = (answer ≡ announcing_none 0 What.NoHandle) × (filled ≡ buffer)
+ReceivesNone buffer answer filled = (answer ≡ announcing_none 0 What.NoRequest) × (filled ≡ buffer)
 
 -- what is reported to C about what to do next
 abbrev pub answer_of_sent : Sent → GitwireAnswer
@@ -153,8 +153,8 @@ AsksAnswers old request answer new (Some kept) = LeavesRequest old request answe
 
 -- a client's handle is asked to take what a request's handle has
 abbrev pub AsksIn : Option (Client Global) → Option (Request Global) → GitwireAnswer → Option (Client Global) → Option (Request Global) → Type 0
-AsksIn None request answer new kept = (answer ≡ answering What.NoHandle) × (new ≡ None) × (kept ≡ request)
-AsksIn (Some old) None answer new kept = (answer ≡ answering What.NoHandle) × (new ≡ Some old) × (kept ≡ None)
+AsksIn None request answer new kept = (answer ≡ answering What.NoRequest) × (new ≡ None) × (kept ≡ request)
+AsksIn (Some old) None answer new kept = (answer ≡ answering What.NoRequest) × (new ≡ Some old) × (kept ≡ None)
 AsksIn (Some old) (Some request) answer new kept = IsSomeAnd new (λ client. AsksAnswers old request answer client kept)
 
 -- it is reported to C whether the client leaves

@@ -80,7 +80,7 @@ pub record ListsInBuffer (old : Client Global) (chunk : List ℕ) (events : List
 
 -- the handle has nothing: that is reported, and the array and the buffer are unchanged
 abbrev pub ListsNothing : List GitwireEvent → List ℕ → GitwireAnswer → List GitwireEvent → List ℕ → Type 0
-ListsNothing events buffer answer filled written = (answer ≡ answering What.NoHandle) × (filled ≡ events) × (written ≡ buffer)
+ListsNothing events buffer answer filled written = (answer ≡ answering What.NoRequest) × (filled ≡ events) × (written ≡ buffer)
 
 -- one call of `feed` on the bytes of the chunk from this place on gives an event, which is shown in the array after so many others, and whose texts are
 -- written to the buffer after these many bytes

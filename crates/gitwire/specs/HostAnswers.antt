@@ -15,8 +15,6 @@ use Rattle.git_msg.specs.References.{IsMaybeObjectName}
 use Rattle.git_msg.specs.declared.offers.Offer.{Offer}
 use Rattle.git_msg.specs.declared.words.Word.{Word}
 use Rattle.git_server.specs.Repository.{Entry}
-use Rattle.git_server.specs.declared.outcome.Outcome.{Outcome}
-use Rattle.git_server.specs.declared.outcome.Outcome.TheVariants.{Flush, Closed, Refused}
 use Rattle.git_host.specs.HostAnswers.{part_of}
 use Rattle.git_host.specs.HostServer.{AcceptsHost, ClosesHost, FeedsHost, Hosts, RefusesHost, ReportsHost, StepsHost, bytes_of, reads_on, setting_of}
 use Rattle.git_host.specs.HostLookups.{request_of}
@@ -26,7 +24,7 @@ use Rattle.git_host.specs.declared.report.ReferenceFault.{ReferenceFault}
 use Rattle.git_host.specs.declared.report.HostStep.{HostStep}
 use Rattle.git_host.specs.declared.report.Need.{Need}
 use Rattle.git_host.specs.declared.report.Report.{Report}
-use Rattle.gitwire.specs.Answers.{answering, answering_fault, answering_packet, answering_used, more_of, what_number}
+use Rattle.gitwire.specs.Answers.{answering, answering_fault, answering_packet, answering_used, ending, more_of, what_number}
 use Rattle.gitwire.specs.Numbers.{command_number}
 use Rattle.gitwire.specs.Offers.{offer_meant}
 use Rattle.gitwire.specs.RequestAnswers.{HasOrNone, PutsFrom, is_set, announcing_which}
@@ -92,11 +90,6 @@ needing Need.Boundary = answering What.NeedBoundary
 needing Need.Pack = answering What.NeedPack
 needing Need.Reference = answering What.NeedReference
 needing (Need.Size at) = answering_packet 0 at 0 What.NeedSize
-
-abbrev pub ending : Outcome → GitwireAnswer
-ending Flush = answering What.EndedByFlush
-ending Closed = answering What.EndedByClose
-ending (Refused fault) = answering_fault 0 fault
 
 -- what is reported to C for a step, with this request at hand and the bytes of the packet that was returned last
 abbrev pub stepping : HostStep → Option Asked → List ℕ → GitwireAnswer

@@ -10,7 +10,7 @@ abbrev pub what_name : What → List ℕ
 what_name What.Done = codes "Done"
 what_name What.More = codes "More"
 what_name What.Failed = codes "Failed"
-what_name What.NoHandle = codes "NoRequest"
+what_name What.NoRequest = codes "NoRequest"
 what_name What.BufferTooSmall = codes "BufferTooSmall"
 what_name What.NotNow = codes "NotNow"
 what_name What.OutOfMemory = codes "OutOfMemory"

@@ -78,7 +78,7 @@ pub record ListsInBuffer (old : PacketReader) (chunk : List ℕ) (packets : List
 
 -- the handle has nothing: that is reported, and the array and the buffer are unchanged
 abbrev pub ListsNothing : List GitwireAnswer → List ℕ → GitwireAnswer → List GitwireAnswer → List ℕ → Type 0
-ListsNothing packets buffer answer filled written = (answer ≡ answering What.NoHandle) × (filled ≡ packets) × (written ≡ buffer)
+ListsNothing packets buffer answer filled written = (answer ≡ answering What.NoRequest) × (filled ≡ packets) × (written ≡ buffer)
 
 -- the buffer after a call that gives this packet: the payload is at its front, if the call used fewer bytes than that has
 abbrev pub IsWritten : Packet → ℕ → List ℕ → List ℕ → Type 0

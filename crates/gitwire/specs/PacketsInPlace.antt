@@ -57,4 +57,4 @@ pub record ListsInPlace (old : PacketReader) (chunk : List ℕ) (packets : List 
 
 -- the handle has nothing: that is reported, and the array is unchanged
 abbrev pub ListsNoneInPlace : List GitwireAnswer → GitwireAnswer → List GitwireAnswer → Type 0
-ListsNoneInPlace packets answer filled = (answer ≡ answering What.NoHandle) × (filled ≡ packets)
+ListsNoneInPlace packets answer filled = (answer ≡ answering What.NoRequest) × (filled ≡ packets)

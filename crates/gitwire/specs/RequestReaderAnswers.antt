@@ -75,7 +75,7 @@ FeedsHandle old chunk request answer new kept =
 -- a handle that is fed
 abbrev pub FeedsIn : Option (RequestStream Global) → List ℕ → Option (Request Global) → GitwireAnswer
     → Option (RequestStream Global) → Option (Request Global) → Type 0
-FeedsIn None chunk request answer new kept = (answer ≡ answering What.NoHandle) × (new ≡ None) × (kept ≡ request)
+FeedsIn None chunk request answer new kept = (answer ≡ answering What.NoRequest) × (new ≡ None) × (kept ≡ request)
 FeedsIn (Some old) chunk request answer new kept = FeedsHandle old chunk request answer new kept
 
 -- done, or refused at an offset

@@ -6,13 +6,12 @@ use Rattle.git_msg.specs.Arguments.{most_limit}
 use Rattle.git_server.specs.Machine.Server.{Running, outcome_of, repo_of, wants_input}
 use Rattle.git_server.specs.Machine.ServerCalls.{Closes, Goes, Pulls, StopsInTime}
 use Rattle.git_server.specs.Machine.SharedRepo.{shared_by, shared_state}
-use Rattle.git_server.specs.declared.outcome.Outcome.TheVariants.{Flush, Closed, Refused}
 use Rattle.git_server.specs.declared.server.Pulled.{Pulled}
 use Rattle.git_server.specs.declared.server.Pulled.TheVariants.{Packet, NeedInput, Finished}
 use Rattle.git_server.specs.declared.server.Server.{Server}
 use Rattle.git_server.specs.declared.shared_repo.SharedRepo.{SharedRepo}
 use Rattle.gitwire.specs.Buffers.{put_before}
-use Rattle.gitwire.specs.Answers.{more_of, answering, answering_fault, answering_packet, answering_used, what_number}
+use Rattle.gitwire.specs.Answers.{more_of, answering, answering_packet, answering_used, ending, what_number}
 use Rattle.gitwire.specs.declared.answer.GitwireAnswer.{GitwireAnswer}
 use Rattle.gitwire.specs.declared.answer.What.TheVariants as What
 
@@ -41,7 +40,7 @@ pub record BeginsWithin (repository : SharedRepo) (limit : ℕ) (advertise : Boo
 
 -- a server over the repository of a handle; nothing changes if that has none
 abbrev pub BeginsOver : Option SharedRepo → ℕ → Bool → Option (Server SharedRepo Global) → ℕ → Option (Server SharedRepo Global) → Type 0
-BeginsOver None limit advertise old answer new = (answer ≡ what_number What.NoHandle) × (new ≡ old)
+BeginsOver None limit advertise old answer new = (answer ≡ what_number What.NoRequest) × (new ≡ old)
 BeginsOver (Some repository) limit advertise old answer new = BeginsWithin repository limit advertise old answer new
 
 -- the server uses bytes of the chunk, and it is reported to C how many
@@ -65,9 +64,7 @@ pub record ClosesAnswers (old : Server SharedRepo Global) (answer : ℕ) (new : 
 abbrev pub answer_of : Pulled → GitwireAnswer
 answer_of (Packet bytes) = answering_packet 0 0 (length bytes.now) What.Packet
 answer_of NeedInput = answering What.NeedInput
-answer_of (Finished Flush) = answering What.EndedByFlush
-answer_of (Finished Closed) = answering What.EndedByClose
-answer_of (Finished (Refused fault)) = answering_fault 0 fault
+answer_of (Finished outcome) = ending outcome
 
 -- the buffer: a packet is at its front
 abbrev pub filled_by : Pulled → List ℕ → List ℕ

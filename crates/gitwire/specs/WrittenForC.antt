@@ -24,7 +24,7 @@ use Rattle.gitwire.specs.Numbers.{formats, numbered}
 use Rattle.gitwire.specs.Buffers.{Fills}
 use Rattle.gitwire.specs.Answers.{answering, answering_fault, what_number}
 use Rattle.gitwire.specs.declared.answer.GitwireAnswer.{GitwireAnswer}
-use Rattle.gitwire.specs.declared.answer.What.TheVariants.{Done, NoHandle, OutOfMemory, Payload, Flush, Delim, ResponseEnd, BadValue as a_bad_value}
+use Rattle.gitwire.specs.declared.answer.What.TheVariants.{Done, NoRequest, OutOfMemory, Payload, Flush, Delim, ResponseEnd, BadValue as a_bad_value}
 use Rattle.gitwire.specs.declared.written.Unwritten.{Unwritten}
 use Rattle.gitwire.specs.declared.written.Unwritten.TheVariants.{BadValue, Refused}
 
@@ -75,7 +75,7 @@ BeginsToWrite answer (Some held) = answer ≡ what_number Done
 
 -- a handle with a writer does this to the buffer, and keeps it; if the handle has none, that is reported, and nothing is written
 abbrev pub WritesIn : Option (List ℕ) → (List ℕ → GitwireAnswer → List ℕ → Type 0) → List ℕ → GitwireAnswer → List ℕ → Option (List ℕ) → Type 0
-WritesIn None Does buffer answer filled new = (answer ≡ answering NoHandle) × (filled ≡ buffer) × (new ≡ None)
+WritesIn None Does buffer answer filled new = (answer ≡ answering NoRequest) × (filled ≡ buffer) × (new ≡ None)
 WritesIn (Some held) Does buffer answer filled new = Does buffer answer filled × IsSome new
 
 -- the packet of this kind: only a payload has bytes

@@ -4,6 +4,7 @@ ghost use Rattle.std.specs.Prelude.{◌≡◌};
 
 use git_client::EventKind;
 use git_pkt::Fault;
+use git_server::Outcome;
 
 /// The result of one call. Fields without a meaning are 0.
 #[repr(C)]
@@ -30,9 +31,9 @@ pub enum What {
     More,
     /// The library refuses: `fault` is why, and `offset` where.
     Failed,
-    /// The handle has nothing: it was never made, its request was taken, or it was freed. A program in C has only handles of requests with
-    /// nothing in them, so its name there is `NoRequest`.
-    NoHandle,
+    /// The handle has nothing: it was never made, its request was taken, or it was freed. It is named for requests, since a program in C
+    /// has no other handles with nothing in them.
+    NoRequest,
     /// The buffer is too small. Nothing was used or changed.
     BufferTooSmall,
     /// The call may not be made at this moment. Nothing changed.
@@ -93,6 +94,69 @@ pub enum What {
     NotShallow,
 }
 
+/// Each kind, with its number and its name in C: the macro `$reads` makes a `match` on `$from` of them.
+macro_rules! kinds {
+    ($reads:ident, $from:expr) => {
+        $reads! { $from;
+            Done = 0 "Done";
+            More = 1 "More";
+            Failed = 2 "Failed";
+            NoRequest = 3 "NoRequest";
+            BufferTooSmall = 4 "BufferTooSmall";
+            NotNow = 5 "NotNow";
+            OutOfMemory = 6 "OutOfMemory";
+            BadValue = 7 "BadValue";
+            Nothing = 8 "Nothing";
+            Payload = 9 "Payload";
+            Flush = 10 "Flush";
+            Delim = 11 "Delim";
+            ResponseEnd = 12 "ResponseEnd";
+            Request = 13 "Request";
+            Stop = 14 "Stop";
+            Packet = 15 "Packet";
+            NeedInput = 16 "NeedInput";
+            EndedByFlush = 17 "EndedByFlush";
+            EndedByClose = 18 "EndedByClose";
+            CanAsk = 19 "CanAsk";
+            Finished = 20 "Finished";
+            Event(Capability) = 21 "Capability";
+            Event(Offered) = 22 "Offered";
+            Event(Reference) = 23 "Reference";
+            Event(Ack) = 24 "Ack";
+            Event(Nak) = 25 "Nak";
+            Event(Ready) = 26 "Ready";
+            Event(Shallow) = 27 "Shallow";
+            Event(Unshallow) = 28 "Unshallow";
+            Event(WantedRef) = 29 "WantedRef";
+            Event(Info) = 30 "Info";
+            Event(Pack) = 31 "Pack";
+            Event(Progress) = 32 "Progress";
+            Event(Ended) = 33 "Ended";
+            Asked = 34 "Asked";
+            NeedWant = 35 "NeedWant";
+            NeedWantRef = 36 "NeedWantRef";
+            NeedHave = 37 "NeedHave";
+            NeedReady = 38 "NeedReady";
+            NeedBoundary = 39 "NeedBoundary";
+            NeedPack = 40 "NeedPack";
+            NeedReference = 41 "NeedReference";
+            NeedSize = 42 "NeedSize";
+            OutOfOrder = 43 "OutOfOrder";
+            NotShallow = 44 "NotShallow";
+        }
+    };
+}
+
+pub(crate) use kinds;
+
+macro_rules! number_of {
+    ($from:expr; $($what:ident$(($event:ident))? = $number:literal $name:literal;)+) => {
+        match $from {
+            $(What::$what$((EventKind::$event))? => $number,)+
+        }
+    };
+}
+
 impl What {
     ghost use Rattle.gitwire.specs.Answers.{more_of, what_number};
 
@@ -110,58 +174,12 @@ impl What {
     pub fn number(self) -> u32
         ensures { result ≡ what_number self }
     {
-        match self {
-            What::Done => 0,
-            What::More => 1,
-            What::Failed => 2,
-            What::NoHandle => 3,
-            What::BufferTooSmall => 4,
-            What::NotNow => 5,
-            What::OutOfMemory => 6,
-            What::BadValue => 7,
-            What::Nothing => 8,
-            What::Payload => 9,
-            What::Flush => 10,
-            What::Delim => 11,
-            What::ResponseEnd => 12,
-            What::Request => 13,
-            What::Stop => 14,
-            What::Packet => 15,
-            What::NeedInput => 16,
-            What::EndedByFlush => 17,
-            What::EndedByClose => 18,
-            What::CanAsk => 19,
-            What::Finished => 20,
-            What::Event(EventKind::Capability) => 21,
-            What::Event(EventKind::Offered) => 22,
-            What::Event(EventKind::Reference) => 23,
-            What::Event(EventKind::Ack) => 24,
-            What::Event(EventKind::Nak) => 25,
-            What::Event(EventKind::Ready) => 26,
-            What::Event(EventKind::Shallow) => 27,
-            What::Event(EventKind::Unshallow) => 28,
-            What::Event(EventKind::WantedRef) => 29,
-            What::Event(EventKind::Info) => 30,
-            What::Event(EventKind::Pack) => 31,
-            What::Event(EventKind::Progress) => 32,
-            What::Event(EventKind::Ended) => 33,
-            What::Asked => 34,
-            What::NeedWant => 35,
-            What::NeedWantRef => 36,
-            What::NeedHave => 37,
-            What::NeedReady => 38,
-            What::NeedBoundary => 39,
-            What::NeedPack => 40,
-            What::NeedReference => 41,
-            What::NeedSize => 42,
-            What::OutOfOrder => 43,
-            What::NotShallow => 44,
-        }
+        kinds!(number_of, self)
     }
 }
 
 impl GitwireAnswer {
-    ghost use Rattle.gitwire.specs.Answers.{answering, answering_used, answering_packet, answering_fault};
+    ghost use Rattle.gitwire.specs.Answers.{answering, answering_used, answering_packet, answering_fault, ending};
 
     /// A result, and nothing more.
     pub(crate) fn of(what: What) -> GitwireAnswer
@@ -200,6 +218,17 @@ impl GitwireAnswer {
             length: 0,
             kind: What::Failed.number(),
             fault: u32::from(fault.kind.number()),
+        }
+    }
+
+    /// The end of a session.
+    pub(crate) fn of_end(outcome: Outcome) -> GitwireAnswer
+        ensures { result ≡ ending outcome }
+    {
+        match outcome {
+            Outcome::Flush => GitwireAnswer::of(What::EndedByFlush),
+            Outcome::Closed => GitwireAnswer::of(What::EndedByClose),
+            Outcome::Refused(fault) => GitwireAnswer::of_fault(0, fault),
         }
     }
 }

@@ -12,7 +12,7 @@ ghost use Rattle.gitwire.specs.Answers.{answering, what_number};
 use crate::answer::{GitwireAnswer, What};
 use crate::event::GitwireEvent;
 use crate::event_list::list;
-use crate::handles::{GitwireClient, GitwireRequest, Holds, fill};
+use crate::handles::{GitwireClient, GitwireRequest, Holds, fill, on};
 use crate::numbers::number_of_format;
 use crate::offer::{features_noted, key_noted};
 use git_client::{Client, Ending, ReceivedGot, Sent};
@@ -85,7 +85,7 @@ fn ending_numbered(number: u32) -> Option<Ending>
 
 /// Reads up to the next event, and writes its texts to the front of the buffer; but the bytes of `Pack` and `Progress` stay where they are, the
 /// last `text_length` of those used of the chunk, and the buffer is unchanged for them. `More`, `Failed` or the event: `Capability` to
-/// `Ended`; `NotNow` if no bytes are expected; `NoHandle`; and `BufferTooSmall` if the buffer has fewer than 65,516 bytes.
+/// `Ended`; `NotNow` if no bytes are expected; `NoRequest`; and `BufferTooSmall` if the buffer has fewer than 65,516 bytes.
 #[unsafe(no_mangle)]
 pub extern "C" fn gitwire_client_feed(
     alloc: Global,
@@ -96,12 +96,7 @@ pub extern "C" fn gitwire_client_feed(
     ensures { On (client_in client.old) (client_in client.new) (λ old new. FeedsInBuffer old chunk.now buffer.old result buffer.new new)
         (ReceivesNone buffer.old result buffer.new) }
 {
-    let Some(mut taken) = client.take(alloc) else {
-        return GitwireEvent::none(0, What::NoHandle);
-    };
-    let answer = feed(&mut taken.inner, chunk, buffer);
-    client.put(taken);
-    answer
+    on!(client, alloc; feed(client, chunk, buffer), else GitwireEvent::none(0, What::NoRequest))
 }
 
 fn feed(client: &mut Client<Global>, chunk: &[u8], buffer: &mut [u8]) -> GitwireEvent
@@ -125,7 +120,7 @@ fn feed(client: &mut Client<Global>, chunk: &[u8], buffer: &mut [u8]) -> Gitwire
 }
 
 /// What to do next: `Packet`, and the packet to be sent is at the front of the buffer; `NeedInput`, `CanAsk`, `Finished` or `Failed`;
-/// `NoHandle`; and `BufferTooSmall` if the buffer has fewer than 65,520 bytes.
+/// `NoRequest`; and `BufferTooSmall` if the buffer has fewer than 65,520 bytes.
 #[unsafe(no_mangle)]
 pub extern "C" fn gitwire_client_pull(
     alloc: Global,
@@ -135,12 +130,7 @@ pub extern "C" fn gitwire_client_pull(
     ensures { On (client_in client.old) (client_in client.new) (λ old new. PullsInBuffer old buffer.old result buffer.new new)
         (HasNone buffer.old result buffer.new) }
 {
-    let Some(mut taken) = client.take(alloc) else {
-        return GitwireAnswer::of(What::NoHandle);
-    };
-    let answer = pull(&mut taken.inner, buffer);
-    client.put(taken);
-    answer
+    on!(client, alloc; pull(client, buffer))
 }
 
 fn pull(client: &mut Client<Global>, buffer: &mut [u8]) -> GitwireAnswer
@@ -162,7 +152,7 @@ fn pull(client: &mut Client<Global>, buffer: &mut [u8]) -> GitwireAnswer
 }
 
 /// Asks the request of a handle. `Done`, and that handle has none; or `NotNow`, if the client cannot ask, or `Failed`, and the request
-/// stays there; or `NoHandle`, if one of the two has nothing.
+/// stays there; or `NoRequest`, if one of the two has nothing.
 #[unsafe(no_mangle)]
 pub extern "C" fn gitwire_client_ask(
     alloc: Global,
@@ -172,11 +162,11 @@ pub extern "C" fn gitwire_client_ask(
     ensures { AsksIn (client_in client.old) (request_in request.old) result (client_in client.new) (request_in request.new) }
 {
     let Some(mut taken) = client.take(alloc) else {
-        return GitwireAnswer::of(What::NoHandle);
+        return GitwireAnswer::of(What::NoRequest);
     };
     let Some(mut asked) = request.take(alloc) else {
         client.put(taken);
-        return GitwireAnswer::of(What::NoHandle);
+        return GitwireAnswer::of(What::NoRequest);
     };
     let answer = ask(alloc, &mut taken.inner, &mut asked.inner);
     client.put(taken);
@@ -212,17 +202,12 @@ fn ask(
     }
 }
 
-/// Leaves: the flush that ends the conversation is to be pulled. `Done`, `NotNow` if the client cannot ask, or `NoHandle`.
+/// Leaves: the flush that ends the conversation is to be pulled. `Done`, `NotNow` if the client cannot ask, or `NoRequest`.
 #[unsafe(no_mangle)]
 pub extern "C" fn gitwire_client_leave(alloc: Global, client: &mut GitwireClient) -> u32
-    ensures { On (client_in client.old) (client_in client.new) (λ old new. LeavesAnswers old result new) (result ≡ what_number What.NoHandle) }
+    ensures { On (client_in client.old) (client_in client.new) (λ old new. LeavesAnswers old result new) (result ≡ what_number What.NoRequest) }
 {
-    let Some(mut taken) = client.take(alloc) else {
-        return What::NoHandle.number();
-    };
-    let answer = leave(&mut taken.inner);
-    client.put(taken);
-    answer
+    on!(client, alloc; leave(client), else What::NoRequest.number())
 }
 
 fn leave(client: &mut Client<Global>) -> u32
@@ -236,17 +221,12 @@ fn leave(client: &mut Client<Global>) -> u32
 }
 
 /// The input ends here. `Failed`, if more was expected; `NotNow` if the client expects no input: then all is well, or the conversation has
-/// failed already; or `NoHandle`.
+/// failed already; or `NoRequest`.
 #[unsafe(no_mangle)]
 pub extern "C" fn gitwire_client_close(alloc: Global, client: &mut GitwireClient) -> GitwireAnswer
-    ensures { On (client_in client.old) (client_in client.new) (λ old new. ClosesAnswers old result new) (result ≡ answering What.NoHandle) }
+    ensures { On (client_in client.old) (client_in client.new) (λ old new. ClosesAnswers old result new) (result ≡ answering What.NoRequest) }
 {
-    let Some(mut taken) = client.take(alloc) else {
-        return GitwireAnswer::of(What::NoHandle);
-    };
-    let answer = close(&mut taken.inner);
-    client.put(taken);
-    answer
+    on!(client, alloc; close(client))
 }
 
 fn close(client: &mut Client<Global>) -> GitwireAnswer
@@ -259,7 +239,7 @@ fn close(client: &mut Client<Global>) -> GitwireAnswer
 }
 
 /// Writes the server's message about the error that ended the conversation to the front of the buffer. `Done`, `Nothing` if there is none,
-/// `BufferTooSmall` or `NoHandle`.
+/// `BufferTooSmall` or `NoRequest`.
 #[unsafe(no_mangle)]
 pub extern "C" fn gitwire_client_message(
     alloc: Global,
@@ -268,12 +248,7 @@ pub extern "C" fn gitwire_client_message(
 ) -> GitwireAnswer
     ensures { Of (client_in client.old) (client_in client.new) (λ had. MessageAnswers had buffer.old result buffer.new) (HasNone buffer.old result buffer.new) }
 {
-    let Some(taken) = client.take(alloc) else {
-        return GitwireAnswer::of(What::NoHandle);
-    };
-    let answer = message(&taken.inner, buffer);
-    client.put(taken);
-    answer
+    on!(client, alloc; message(client, buffer))
 }
 
 fn message(client: &Client<Global>, buffer: &mut [u8]) -> GitwireAnswer
@@ -294,12 +269,7 @@ fn message(client: &Client<Global>, buffer: &mut [u8]) -> GitwireAnswer
 pub extern "C" fn gitwire_client_features(alloc: Global, client: &mut GitwireClient) -> u32
     ensures { Of (client_in client.old) (client_in client.new) (λ had. FeaturesAnswer had result) (result ≡ 0) }
 {
-    let Some(taken) = client.take(alloc) else {
-        return 0;
-    };
-    let answer = features(&taken.inner);
-    client.put(taken);
-    answer
+    on!(client, alloc; features(client), else 0)
 }
 
 fn features(client: &Client<Global>) -> u32
@@ -319,12 +289,7 @@ pub extern "C" fn gitwire_client_advertises(
 ) -> bool
     ensures { Of (client_in client.old) (client_in client.new) (λ had. AdvertisesAnswer key had result) (result ≡ false) }
 {
-    let Some(taken) = client.take(alloc) else {
-        return false;
-    };
-    let answer = advertises(&taken.inner, key);
-    client.put(taken);
-    answer
+    on!(client, alloc; advertises(client, key), else false)
 }
 
 fn advertises(client: &Client<Global>, key: u32) -> bool
@@ -339,12 +304,7 @@ fn advertises(client: &Client<Global>, key: u32) -> bool
 pub extern "C" fn gitwire_client_format(alloc: Global, client: &mut GitwireClient) -> u32
     ensures { Of (client_in client.old) (client_in client.new) (λ had. result ≡ format_shown (format_known had)) (result ≡ 0) }
 {
-    let Some(taken) = client.take(alloc) else {
-        return 0;
-    };
-    let answer = format(&taken.inner);
-    client.put(taken);
-    answer
+    on!(client, alloc; format(client), else 0)
 }
 
 fn format(client: &Client<Global>) -> u32

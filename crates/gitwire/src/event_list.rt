@@ -13,7 +13,7 @@ ghost use Rattle.gitwire.specs.Handles.{client_in};
 use crate::answer::{GitwireAnswer, What};
 use crate::client::LONGEST_PARTS;
 use crate::event::GitwireEvent;
-use crate::handles::{GitwireClient, Holds};
+use crate::handles::{GitwireClient, Holds, on};
 use git_client::{Client, Event, EventKind, EventParts, ReceivedGot};
 use git_names::Steps;
 use std::alloc::Global;
@@ -32,7 +32,7 @@ pub(crate) struct Extent {
 /// Fills the array with the events of the chunk: those that `gitwire_client_feed` would give, call after call. Their texts are
 /// written to the buffer one after another, and bytes of the pack and of progress stay in the chunk. `length` is how many events are in the
 /// array, and `used` how many bytes were used. `More`: the chunk is used up, the array is full, or the buffer has fewer than 65,516 bytes
-/// left; `CanAsk`: a request can be asked after the last event; `Failed`; `NotNow` if no bytes are expected; `NoHandle`; and
+/// left; `CanAsk`: a request can be asked after the last event; `Failed`; `NotNow` if no bytes are expected; `NoRequest`; and
 /// `BufferTooSmall` if the array has no place, or the buffer has fewer than 65,516 bytes.
 #[unsafe(no_mangle)]
 pub extern "C" fn gitwire_client_events(
@@ -46,12 +46,7 @@ pub extern "C" fn gitwire_client_events(
         (λ old new. ListsInBuffer old chunk.now events.old buffer.old result events.new buffer.new new)
         (ListsNothing events.old buffer.old result events.new buffer.new) }
 {
-    let Some(mut taken) = client.take(alloc) else {
-        return GitwireAnswer::of(What::NoHandle);
-    };
-    let answer = list_events(&mut taken.inner, chunk, events, buffer);
-    client.put(taken);
-    answer
+    on!(client, alloc; list_events(client, chunk, events, buffer))
 }
 
 fn list_events(

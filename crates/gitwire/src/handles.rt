@@ -52,6 +52,38 @@ pub(crate) fn fill<H: Holds>(handle: &mut H, alloc: Global, inner: Box<H::Inner,
     What::Done
 }
 
+/// Does this with what the handle has, which is taken out before, goes by the handle's name meanwhile, and is put back after. If the handle has
+/// nothing, the function in which this stands returns `$none`, or the answer `NoRequest`.
+macro_rules! on {
+    ($handle:ident, $alloc:ident; $does:expr) => {
+        on!($handle, $alloc; $does, else GitwireAnswer::of(What::NoRequest))
+    };
+    ($handle:ident, $alloc:ident; $does:expr, else $none:expr) => {{
+        let Some(mut taken) = $handle.take($alloc) else {
+            return $none;
+        };
+        let answer = {
+            let $handle = &mut *taken.inner;
+            $does
+        };
+        $handle.put(taken);
+        answer
+    }};
+}
+
+pub(crate) use on;
+
+// What is taken out of a handle that has a machine of this kind or none.
+macro_rules! opened {
+    ($kind:ident, $handle:expr) => {{
+        let (machine, shell) = $handle.handle.open()?;
+        match machine {
+            Machine::$kind(inner) => Some(Taken { inner, shell }),
+            _ => unreachable!(),
+        }
+    }};
+}
+
 /// A packet reader, or none.
 #[repr(C)]
 #[derive(Drop)]
@@ -86,11 +118,7 @@ impl Holds for GitwirePacketReader {
     }
 
     fn take(&mut self, alloc: Global) -> Option<Taken<Self::Inner>> {
-        let (machine, shell) = replace(self, Self::none(alloc)).handle.open()?;
-        match machine {
-            Machine::PacketReader(inner) => Some(Taken { inner, shell }),
-            _ => unreachable!(),
-        }
+        opened!(PacketReader, replace(self, Self::none(alloc)))
     }
 
     fn put(&mut self, taken: Taken<Self::Inner>)
@@ -122,11 +150,7 @@ impl Holds for GitwireRequestReader {
     }
 
     fn take(&mut self, alloc: Global) -> Option<Taken<Self::Inner>> {
-        let (machine, shell) = replace(self, Self::none(alloc)).handle.open()?;
-        match machine {
-            Machine::RequestReader(inner) => Some(Taken { inner, shell }),
-            _ => unreachable!(),
-        }
+        opened!(RequestReader, replace(self, Self::none(alloc)))
     }
 
     fn put(&mut self, taken: Taken<Self::Inner>)
@@ -158,11 +182,7 @@ impl Holds for GitwireRequest {
     }
 
     fn take(&mut self, alloc: Global) -> Option<Taken<Self::Inner>> {
-        let (machine, shell) = replace(self, Self::none(alloc)).handle.open()?;
-        match machine {
-            Machine::Request(inner) => Some(Taken { inner, shell }),
-            _ => unreachable!(),
-        }
+        opened!(Request, replace(self, Self::none(alloc)))
     }
 
     fn put(&mut self, taken: Taken<Self::Inner>)
@@ -194,11 +214,7 @@ impl Holds for GitwireRepository {
     }
 
     fn take(&mut self, alloc: Global) -> Option<Taken<Self::Inner>> {
-        let (machine, shell) = replace(self, Self::none(alloc)).handle.open()?;
-        match machine {
-            Machine::Repository(inner) => Some(Taken { inner, shell }),
-            _ => unreachable!(),
-        }
+        opened!(Repository, replace(self, Self::none(alloc)))
     }
 
     fn put(&mut self, taken: Taken<Self::Inner>)
@@ -230,11 +246,7 @@ impl Holds for GitwireServer {
     }
 
     fn take(&mut self, alloc: Global) -> Option<Taken<Self::Inner>> {
-        let (machine, shell) = replace(self, Self::none(alloc)).handle.open()?;
-        match machine {
-            Machine::Server(inner) => Some(Taken { inner, shell }),
-            _ => unreachable!(),
-        }
+        opened!(Server, replace(self, Self::none(alloc)))
     }
 
     fn put(&mut self, taken: Taken<Self::Inner>)
@@ -266,11 +278,7 @@ impl Holds for GitwireClient {
     }
 
     fn take(&mut self, alloc: Global) -> Option<Taken<Self::Inner>> {
-        let (machine, shell) = replace(self, Self::none(alloc)).handle.open()?;
-        match machine {
-            Machine::Client(inner) => Some(Taken { inner, shell }),
-            _ => unreachable!(),
-        }
+        opened!(Client, replace(self, Self::none(alloc)))
     }
 
     fn put(&mut self, taken: Taken<Self::Inner>)
@@ -302,11 +310,7 @@ impl Holds for GitwireWriter {
     }
 
     fn take(&mut self, alloc: Global) -> Option<Taken<Self::Inner>> {
-        let (machine, shell) = replace(self, Self::none(alloc)).handle.open()?;
-        match machine {
-            Machine::Writer(inner) => Some(Taken { inner, shell }),
-            _ => unreachable!(),
-        }
+        opened!(Writer, replace(self, Self::none(alloc)))
     }
 
     fn put(&mut self, taken: Taken<Self::Inner>)
@@ -338,11 +342,7 @@ impl Holds for GitwireHost {
     }
 
     fn take(&mut self, alloc: Global) -> Option<Taken<Self::Inner>> {
-        let (machine, shell) = replace(self, Self::none(alloc)).handle.open()?;
-        match machine {
-            Machine::Host(inner) => Some(Taken { inner, shell }),
-            _ => unreachable!(),
-        }
+        opened!(Host, replace(self, Self::none(alloc)))
     }
 
     fn put(&mut self, taken: Taken<Self::Inner>)

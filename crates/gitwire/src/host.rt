@@ -7,12 +7,12 @@ ghost use Rattle.gitwire.specs.Calls.{HasNone, On};
 ghost use Rattle.gitwire.specs.Handles.{host_in};
 ghost use Rattle.gitwire.specs.Answers.{answering, answering_packet, what_number};
 ghost use Rattle.gitwire.specs.HostAnswers.{AcceptsAnswers, ClosesAnswers, FeedsAnswers, MakesHost, MeanHost, MeanNoHost, PullsInBuffer, RefusesInBuffer};
-ghost use Rattle.gitwire.specs.HostAnswers.{asking, done_where, ending, filled_at, needing, refused_as, stepping};
+ghost use Rattle.gitwire.specs.HostAnswers.{asking, done_where, filled_at, needing, refused_as, stepping};
 ghost use Rattle.gitwire.specs.Buffers.{put_before};
 
 use crate::answer::{GitwireAnswer, What};
 use crate::buffers::put_bytes;
-use crate::handles::{GitwireHost, Holds, fill};
+use crate::handles::{GitwireHost, Holds, fill, on};
 use crate::numbers::number_of_command;
 use crate::offer::offer_numbered;
 use crate::request::MOST_LIMIT;
@@ -20,7 +20,6 @@ use git_host::{HostServer, HostStep, LONGEST_REFUSAL, Need};
 use git_msg::Limits;
 use git_names::Steps;
 use git_pkt::{Fault, Kind, LONGEST_PACKET};
-use git_server::Outcome;
 use std::alloc::Global;
 use std::mem::replace;
 
@@ -69,21 +68,16 @@ fn host_meant(
 }
 
 /// Takes bytes of the input: all of them, or those up to the end of a request, a flush instead of one, or an error. If the server expects
-/// no bytes, none is used: `NotNow`. `More`, and how many were used; or `NoHandle`.
+/// no bytes, none is used: `NotNow`. `More`, and how many were used; or `NoRequest`.
 #[unsafe(no_mangle)]
 pub extern "C" fn gitwire_host_feed(
     alloc: Global,
     host: &mut GitwireHost,
     chunk: &[u8],
 ) -> GitwireAnswer
-    ensures { On (host_in host.old) (host_in host.new) (λ old new. FeedsAnswers old chunk.now result new) (result ≡ answering What.NoHandle) }
+    ensures { On (host_in host.old) (host_in host.new) (λ old new. FeedsAnswers old chunk.now result new) (result ≡ answering What.NoRequest) }
 {
-    let Some(mut taken) = host.take(alloc) else {
-        return GitwireAnswer::of(What::NoHandle);
-    };
-    let answer = feed(&mut taken.inner, chunk);
-    host.put(taken);
-    answer
+    on!(host, alloc; feed(host, chunk))
 }
 
 fn feed(server: &mut HostServer<Global>, chunk: &[u8]) -> GitwireAnswer
@@ -94,17 +88,12 @@ fn feed(server: &mut HostServer<Global>, chunk: &[u8]) -> GitwireAnswer
     GitwireAnswer::of_used(used, What::more(expected))
 }
 
-/// The input ends here. `Done`; `NotNow` if the server expects no bytes, and nothing changed; or `NoHandle`.
+/// The input ends here. `Done`; `NotNow` if the server expects no bytes, and nothing changed; or `NoRequest`.
 #[unsafe(no_mangle)]
 pub extern "C" fn gitwire_host_close(alloc: Global, host: &mut GitwireHost) -> u32
-    ensures { On (host_in host.old) (host_in host.new) (λ old new. ClosesAnswers old result new) (result ≡ what_number What.NoHandle) }
+    ensures { On (host_in host.old) (host_in host.new) (λ old new. ClosesAnswers old result new) (result ≡ what_number What.NoRequest) }
 {
-    let Some(mut taken) = host.take(alloc) else {
-        return What::NoHandle.number();
-    };
-    let answer = close(&mut taken.inner);
-    host.put(taken);
-    answer
+    on!(host, alloc; close(host), else What::NoRequest.number())
 }
 
 fn close(server: &mut HostServer<Global>) -> u32
@@ -124,7 +113,7 @@ fn done_where(done: bool) -> u32
 }
 
 /// The next packet to be sent, copied to the front of the buffer, or what to do instead. `Packet`, `NeedInput`, `Asked`, `NeedWant` to
-/// `NeedSize`, `EndedByFlush`, `EndedByClose` or `Failed`; `NoHandle`; and `BufferTooSmall` if the buffer has fewer than 65,520 bytes.
+/// `NeedSize`, `EndedByFlush`, `EndedByClose` or `Failed`; `NoRequest`; and `BufferTooSmall` if the buffer has fewer than 65,520 bytes.
 #[unsafe(no_mangle)]
 pub extern "C" fn gitwire_host_pull(
     alloc: Global,
@@ -133,12 +122,7 @@ pub extern "C" fn gitwire_host_pull(
 ) -> GitwireAnswer
     ensures { On (host_in host.old) (host_in host.new) (λ old new. PullsInBuffer old buffer.old result buffer.new new) (HasNone buffer.old result buffer.new) }
 {
-    let Some(mut taken) = host.take(alloc) else {
-        return GitwireAnswer::of(What::NoHandle);
-    };
-    let answer = pull(&mut taken.inner, buffer);
-    host.put(taken);
-    answer
+    on!(host, alloc; pull(host, buffer))
 }
 
 fn pull(server: &mut HostServer<Global>, buffer: &mut [u8]) -> GitwireAnswer
@@ -162,7 +146,7 @@ fn show(server: &HostServer<Global>, step: HostStep, buffer: &mut [u8]) -> Gitwi
         HostStep::NeedInput => GitwireAnswer::of(What::NeedInput),
         HostStep::Asked => show_asked(server),
         HostStep::Need(need) => show_need(need),
-        HostStep::Ended(outcome) => show_end(outcome),
+        HostStep::Ended(outcome) => GitwireAnswer::of_end(outcome),
     }
 }
 
@@ -203,27 +187,12 @@ fn show_need(need: Need) -> GitwireAnswer
     }
 }
 
-fn show_end(outcome: Outcome) -> GitwireAnswer
-    ensures { result ≡ ending outcome }
-{
-    match outcome {
-        Outcome::Flush => GitwireAnswer::of(What::EndedByFlush),
-        Outcome::Closed => GitwireAnswer::of(What::EndedByClose),
-        Outcome::Refused(fault) => GitwireAnswer::of_fault(0, fault),
-    }
-}
-
-/// Accepts the request that came. `Done`; `NotNow` if none is `Asked`, and nothing changed; or `NoHandle`.
+/// Accepts the request that came. `Done`; `NotNow` if none is `Asked`, and nothing changed; or `NoRequest`.
 #[unsafe(no_mangle)]
 pub extern "C" fn gitwire_host_accept(alloc: Global, host: &mut GitwireHost) -> u32
-    ensures { On (host_in host.old) (host_in host.new) (λ old new. AcceptsAnswers old result new) (result ≡ what_number What.NoHandle) }
+    ensures { On (host_in host.old) (host_in host.new) (λ old new. AcceptsAnswers old result new) (result ≡ what_number What.NoRequest) }
 {
-    let Some(mut taken) = host.take(alloc) else {
-        return What::NoHandle.number();
-    };
-    let answer = accept(&mut taken.inner);
-    host.put(taken);
-    answer
+    on!(host, alloc; accept(host), else What::NoRequest.number())
 }
 
 fn accept(server: &mut HostServer<Global>) -> u32
@@ -234,7 +203,7 @@ fn accept(server: &mut HostServer<Global>) -> u32
 
 /// Refuses the request that came: `Packet`, an error packet with this text is at the front of the buffer, and the session is over. `NotNow`
 /// if none is `Asked`; `Failed` by `BadLine` for a text of more than 65,511 bytes; `BufferTooSmall` if the buffer has fewer than 65,520
-/// bytes; or `NoHandle`: nothing changed.
+/// bytes; or `NoRequest`: nothing changed.
 #[unsafe(no_mangle)]
 pub extern "C" fn gitwire_host_refuse(
     alloc: Global,
@@ -245,12 +214,7 @@ pub extern "C" fn gitwire_host_refuse(
     ensures { On (host_in host.old) (host_in host.new) (λ old new. RefusesInBuffer text.now old buffer.old result buffer.new new)
         (HasNone buffer.old result buffer.new) }
 {
-    let Some(mut taken) = host.take(alloc) else {
-        return GitwireAnswer::of(What::NoHandle);
-    };
-    let answer = refuse(&mut taken.inner, text, buffer);
-    host.put(taken);
-    answer
+    on!(host, alloc; refuse(host, text, buffer))
 }
 
 fn refuse(server: &mut HostServer<Global>, text: &[u8], buffer: &mut [u8]) -> GitwireAnswer

@@ -13,7 +13,7 @@ ghost use Rattle.gitwire.specs.WrittenForC.{given};
 ghost use Rattle.gitwire.specs.HostAnswers.{ReportsMeantInBuffer, bytes_in, filled_by, reporting, size_given, unread_by};
 
 use crate::answer::{GitwireAnswer, What};
-use crate::handles::{GitwireHost, Holds};
+use crate::handles::{GitwireHost, Holds, on};
 use crate::host::{hand_out, refused_as};
 use crate::host_texts::Unread;
 use crate::line_writers::{boundary_of, read_given_id};
@@ -49,12 +49,7 @@ pub extern "C" fn gitwire_host_want_ref(
     ensures { On (host_in host.old) (host_in host.new)
         (λ old new. ReportsMeantInBuffer (MeansWantRef (format_of old) id.now) old buffer.old result buffer.new new) (HasNone buffer.old result buffer.new) }
 {
-    let Some(mut taken) = host.take(alloc) else {
-        return GitwireAnswer::of(What::NoHandle);
-    };
-    let answer = want_ref(&mut taken.inner, id, buffer);
-    host.put(taken);
-    answer
+    on!(host, alloc; want_ref(host, id, buffer))
 }
 
 /// Whether the store has the client's object that is asked about: `Packet`, its `ACK`, or `More`.
@@ -99,12 +94,7 @@ pub extern "C" fn gitwire_host_boundary(
         (λ old new. ReportsMeantInBuffer (MeansBoundary (format_of old) shallow id.now) old buffer.old result buffer.new new)
         (HasNone buffer.old result buffer.new) }
 {
-    let Some(mut taken) = host.take(alloc) else {
-        return GitwireAnswer::of(What::NoHandle);
-    };
-    let answer = boundary(&mut taken.inner, shallow, id, buffer);
-    host.put(taken);
-    answer
+    on!(host, alloc; boundary(host, shallow, id, buffer))
 }
 
 /// The boundary has no more lines: `Packet`, the delimiter of its section, or `More` if it has none at all.
@@ -180,12 +170,7 @@ pub extern "C" fn gitwire_host_reference(
         (λ old new. ReportsMeantInBuffer (MeansReference (format_of old) id.now name.now target.now peeled.now) old buffer.old result buffer.new new)
         (HasNone buffer.old result buffer.new) }
 {
-    let Some(mut taken) = host.take(alloc) else {
-        return GitwireAnswer::of(What::NoHandle);
-    };
-    let answer = reference(&mut taken.inner, id, name, target, peeled, buffer);
-    host.put(taken);
-    answer
+    on!(host, alloc; reference(host, id, name, target, peeled, buffer))
 }
 
 /// `HEAD` is unborn and points to this name; it is reported before any reference: `Packet` if the request asks for it, and else `More`.
@@ -200,12 +185,7 @@ pub extern "C" fn gitwire_host_unborn(
     ensures { On (host_in host.old) (host_in host.new) (λ old new. ReportsMeantInBuffer (MeansUnborn target.now) old buffer.old result buffer.new new)
         (HasNone buffer.old result buffer.new) }
 {
-    let Some(mut taken) = host.take(alloc) else {
-        return GitwireAnswer::of(What::NoHandle);
-    };
-    let answer = unborn(&mut taken.inner, target, buffer);
-    host.put(taken);
-    answer
+    on!(host, alloc; unborn(host, target, buffer))
 }
 
 /// There are no more references: `Packet`, the flush that ends the answer.
@@ -256,7 +236,7 @@ pub extern "C" fn gitwire_host_fail(
 }
 
 // Takes what the host reports, and copies its packet to the front of the buffer, if it has one. `Packet`, `More`, `NotNow`, `OutOfOrder`,
-// `NotShallow`, `OutOfMemory` or `Failed`; `BufferTooSmall` if the buffer has fewer than 65,520 bytes; or `NoHandle`.
+// `NotShallow`, `OutOfMemory` or `Failed`; `BufferTooSmall` if the buffer has fewer than 65,520 bytes; or `NoRequest`.
 fn report_in(
     alloc: Global,
     host: &mut GitwireHost,
@@ -266,12 +246,7 @@ fn report_in(
     ensures { On (host_in host.old) (host_in host.new) (λ old new. ReportsInBuffer report.entry old buffer.old result buffer.new new)
         (HasNone buffer.old result buffer.new) }
 {
-    let Some(mut taken) = host.take(alloc) else {
-        return GitwireAnswer::of(What::NoHandle);
-    };
-    let answer = report_within(&mut taken.inner, report, buffer);
-    host.put(taken);
-    answer
+    on!(host, alloc; report_within(host, report, buffer))
 }
 
 fn report_within(

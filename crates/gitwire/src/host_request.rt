@@ -9,7 +9,7 @@ ghost use Rattle.gitwire.specs.HostAnswers.{PutsAt, command_shown, has_flag_at, 
 ghost use Rattle.gitwire.specs.Numbers.{item_words, numbered};
 
 use crate::answer::{GitwireAnswer, What};
-use crate::handles::{GitwireHost, Holds};
+use crate::handles::{GitwireHost, Holds, on};
 use crate::numbers::number_of_command;
 use crate::request_items::{self, given_number, put_item};
 use git_host::HostServer;
@@ -20,12 +20,7 @@ use std::alloc::Global;
 pub extern "C" fn gitwire_host_command(alloc: Global, host: &mut GitwireHost) -> u32
     ensures { Of (host_in host.old) (host_in host.new) (λ had. result ≡ command_shown (request_of had)) (result ≡ 0) }
 {
-    let Some(taken) = host.take(alloc) else {
-        return 0;
-    };
-    let answer = command(&taken.inner);
-    host.put(taken);
-    answer
+    on!(host, alloc; command(host), else 0)
 }
 
 fn command(server: &HostServer<Global>) -> u32
@@ -37,18 +32,13 @@ fn command(server: &HostServer<Global>) -> u32
     }
 }
 
-/// Whether the request that is asked about or answered has the flag of this number, from `SYMREFS` to `WAIT_FOR_DONE`. For another number,
-/// and without a request, it is false.
+/// Whether the request that is asked about or answered has the flag of this number. For a number that no flag has, and without a request,
+/// it is false.
 #[unsafe(no_mangle)]
 pub extern "C" fn gitwire_host_flag(alloc: Global, host: &mut GitwireHost, flag: u32) -> bool
     ensures { Of (host_in host.old) (host_in host.new) (λ had. result ≡ has_flag_at flag (request_of had)) (result ≡ false) }
 {
-    let Some(taken) = host.take(alloc) else {
-        return false;
-    };
-    let answer = has_flag(&taken.inner, flag);
-    host.put(taken);
-    answer
+    on!(host, alloc; has_flag(host, flag), else false)
 }
 
 fn has_flag(server: &HostServer<Global>, number: u32) -> bool
@@ -61,21 +51,16 @@ fn has_flag(server: &HostServer<Global>, number: u32) -> bool
 }
 
 /// A number of the request that is asked about or answered, `DEEPEN` or `DEEPEN_SINCE`: `Done`, and `offset` is the number; `Nothing` if it
-/// was not set, or there is no request; `BadValue`; or `NoHandle`.
+/// was not set, or there is no request; `BadValue`; or `NoRequest`.
 #[unsafe(no_mangle)]
 pub extern "C" fn gitwire_host_number(
     alloc: Global,
     host: &mut GitwireHost,
     which: u32,
 ) -> GitwireAnswer
-    ensures { Of (host_in host.old) (host_in host.new) (λ had. result ≡ announcing_given_at which (request_of had)) (result ≡ answering What.NoHandle) }
+    ensures { Of (host_in host.old) (host_in host.new) (λ had. result ≡ announcing_given_at which (request_of had)) (result ≡ answering What.NoRequest) }
 {
-    let Some(taken) = host.take(alloc) else {
-        return GitwireAnswer::of(What::NoHandle);
-    };
-    let answer = number(&taken.inner, which);
-    host.put(taken);
-    answer
+    on!(host, alloc; number(host, which))
 }
 
 fn number(server: &HostServer<Global>, which: u32) -> GitwireAnswer
@@ -89,7 +74,7 @@ fn number(server: &HostServer<Global>, which: u32) -> GitwireAnswer
 
 /// Writes the text at an index of a list of the request that is asked about or answered, from `REF_PREFIXES` to `FILTERS`, to the front of
 /// the buffer, an object name as its digits. `Done`, and `length` is how many bytes it has; `Nothing` past the end of the list, and if
-/// there is no request; `BufferTooSmall`; `BadValue`; or `NoHandle`.
+/// there is no request; `BufferTooSmall`; `BadValue`; or `NoRequest`.
 #[unsafe(no_mangle)]
 pub extern "C" fn gitwire_host_item(
     alloc: Global,
@@ -101,12 +86,7 @@ pub extern "C" fn gitwire_host_item(
     ensures { Of (host_in host.old) (host_in host.new) (λ had. PutsAt (numbered item_words list) index (request_of had) buffer.old result buffer.new)
         (HasNone buffer.old result buffer.new) }
 {
-    let Some(taken) = host.take(alloc) else {
-        return GitwireAnswer::of(What::NoHandle);
-    };
-    let answer = item(&taken.inner, list, index, buffer);
-    host.put(taken);
-    answer
+    on!(host, alloc; item(host, list, index, buffer))
 }
 
 fn item(server: &HostServer<Global>, list: u32, index: usize, buffer: &mut [u8]) -> GitwireAnswer

@@ -10,9 +10,9 @@ ghost use Rattle.gitwire.specs.WrittenForC.{Makes, MeansAck, MeansBoundary, Mean
 ghost use Rattle.gitwire.specs.WrittenForC.{boundary_of, given};
 
 use crate::answer::{GitwireAnswer, What};
-use crate::handles::{GitwireWriter, Holds};
+use crate::handles::{GitwireWriter, Holds, on};
 use crate::numbers::format_numbered;
-use crate::written::{Unwritten, hand_out};
+use crate::written::{Unwritten, hand_out, write_packet};
 use git_msg::{
     Boundary, Info, Reference, WantedRef, put_ack, put_boundary, put_info, put_reference,
     put_wanted,
@@ -39,13 +39,7 @@ pub extern "C" fn gitwire_put_reference(
     ensures { WritesIn (writer_in writer.old) (Writes (MeansReference format id.now name.now target.now peeled.now)) buffer.old result buffer.new
         (writer_in writer.new) }
 {
-    let Some(mut taken) = writer.take(alloc) else {
-        return GitwireAnswer::of(What::NoHandle);
-    };
-    let made = make_reference(&mut taken.inner.hold, format, id, name, target, peeled);
-    let answer = hand_out(made, &taken.inner.hold, buffer);
-    writer.put(taken);
-    answer
+    write_packet!(writer, alloc; make_reference(&mut writer.hold, format, id, name, target, peeled), buffer)
 }
 
 /// Writes the line of the section `acknowledgments` that acknowledges an object to the front of the buffer.
@@ -60,13 +54,7 @@ pub extern "C" fn gitwire_put_ack(
 ) -> GitwireAnswer
     ensures { WritesIn (writer_in writer.old) (Writes (MeansAck format id.now)) buffer.old result buffer.new (writer_in writer.new) }
 {
-    let Some(mut taken) = writer.take(alloc) else {
-        return GitwireAnswer::of(What::NoHandle);
-    };
-    let made = make_ack(&mut taken.inner.hold, format, id);
-    let answer = hand_out(made, &taken.inner.hold, buffer);
-    writer.put(taken);
-    answer
+    write_packet!(writer, alloc; make_ack(&mut writer.hold, format, id), buffer)
 }
 
 /// Writes a line of the section `shallow-info`, `shallow` or else `unshallow`, to the front of the buffer.
@@ -82,13 +70,7 @@ pub extern "C" fn gitwire_put_boundary(
 ) -> GitwireAnswer
     ensures { WritesIn (writer_in writer.old) (Writes (MeansBoundary format shallow id.now)) buffer.old result buffer.new (writer_in writer.new) }
 {
-    let Some(mut taken) = writer.take(alloc) else {
-        return GitwireAnswer::of(What::NoHandle);
-    };
-    let made = make_boundary(&mut taken.inner.hold, format, shallow, id);
-    let answer = hand_out(made, &taken.inner.hold, buffer);
-    writer.put(taken);
-    answer
+    write_packet!(writer, alloc; make_boundary(&mut writer.hold, format, shallow, id), buffer)
 }
 
 /// Writes a line of the section `wanted-refs` to the front of the buffer. Its parts are checked from left to right:
@@ -105,13 +87,7 @@ pub extern "C" fn gitwire_put_wanted(
 ) -> GitwireAnswer
     ensures { WritesIn (writer_in writer.old) (Writes (MeansWanted format id.now name.now)) buffer.old result buffer.new (writer_in writer.new) }
 {
-    let Some(mut taken) = writer.take(alloc) else {
-        return GitwireAnswer::of(What::NoHandle);
-    };
-    let made = make_wanted(&mut taken.inner.hold, format, id, name);
-    let answer = hand_out(made, &taken.inner.hold, buffer);
-    writer.put(taken);
-    answer
+    write_packet!(writer, alloc; make_wanted(&mut writer.hold, format, id, name), buffer)
 }
 
 /// Writes a line of the response to `object-info` to the front of the buffer: the object and its size, or the object alone if the server
@@ -129,13 +105,7 @@ pub extern "C" fn gitwire_put_info(
 ) -> GitwireAnswer
     ensures { WritesIn (writer_in writer.old) (Writes (MeansInfo format id.now has_size size)) buffer.old result buffer.new (writer_in writer.new) }
 {
-    let Some(mut taken) = writer.take(alloc) else {
-        return GitwireAnswer::of(What::NoHandle);
-    };
-    let made = make_info(&mut taken.inner.hold, format, id, has_size, size);
-    let answer = hand_out(made, &taken.inner.hold, buffer);
-    writer.put(taken);
-    answer
+    write_packet!(writer, alloc; make_info(&mut writer.hold, format, id, has_size, size), buffer)
 }
 
 fn make_reference(

@@ -9,7 +9,7 @@ ghost use Rattle.gitwire.specs.PacketsInPlace.{GivesListed, GivesNoneListed};
 
 use crate::answer::{GitwireAnswer, What};
 use crate::gatherer::Gatherer;
-use crate::handles::{GitwirePacketReader, Holds};
+use crate::handles::{GitwirePacketReader, Holds, on};
 use crate::packets::LONGEST_PAYLOAD;
 use git_names::Steps;
 use git_pkt::{Got, Packet};
@@ -18,7 +18,7 @@ use std::alloc::Global;
 /// Fills the array with the packets of the chunk: those that `gitwire_packet_reader_feed` would give, call after call, but for `used`, which is
 /// how many bytes of the chunk are used up to the packet's end. Their payloads stay in the chunk, as the last of these bytes; a payload that has more
 /// bytes than these, which only the first packet can have, is written to the front of the buffer. `length` is how many packets are in the array,
-/// and `used` how many bytes were used. `More`: the chunk is used up, or the array is full; `Failed`; `NoHandle`; and `BufferTooSmall` if
+/// and `used` how many bytes were used. `More`: the chunk is used up, or the array is full; `Failed`; `NoRequest`; and `BufferTooSmall` if
 /// the array has no place, or the buffer has fewer than 65,516 bytes.
 #[unsafe(no_mangle)]
 pub extern "C" fn gitwire_packet_reader_packets(
@@ -32,12 +32,7 @@ pub extern "C" fn gitwire_packet_reader_packets(
         (λ old new. ListsInBuffer old chunk.now packets.old buffer.old result packets.new buffer.new new)
         (ListsNothing packets.old buffer.old result packets.new buffer.new) }
 {
-    let Some(mut taken) = reader.take(alloc) else {
-        return GitwireAnswer::of(What::NoHandle);
-    };
-    let answer = list_packets(&mut taken.inner, chunk, packets, buffer);
-    reader.put(taken);
-    answer
+    on!(reader, alloc; list_packets(reader, chunk, packets, buffer))
 }
 
 fn list_packets(

@@ -8,7 +8,7 @@ ghost use Rattle.gitwire.specs.Answers.{answering};
 
 use crate::answer::{GitwireAnswer, What};
 use crate::gatherer::Gatherer;
-use crate::handles::{GitwirePacketReader, Holds, fill};
+use crate::handles::{GitwirePacketReader, Holds, fill, on};
 use git_names::Steps;
 use git_pkt::{Got, Packet, PacketReader};
 use std::alloc::Global;
@@ -34,7 +34,7 @@ pub extern "C" fn gitwire_packet_reader_init(alloc: Global, reader: &mut Gitwire
 }
 
 /// Reads up to the end of the next packet, and copies its payload to the front of the buffer. `More`, `Payload`, `Flush`, `Delim`,
-/// `ResponseEnd` or `Failed`; `NoHandle`; and `BufferTooSmall` if the buffer has fewer than 65,516 bytes.
+/// `ResponseEnd` or `Failed`; `NoRequest`; and `BufferTooSmall` if the buffer has fewer than 65,516 bytes.
 #[unsafe(no_mangle)]
 pub extern "C" fn gitwire_packet_reader_feed(
     alloc: Global,
@@ -45,12 +45,7 @@ pub extern "C" fn gitwire_packet_reader_feed(
     ensures { On (packet_reader_in reader.old) (packet_reader_in reader.new) (λ old new. FeedsInBuffer old chunk.now buffer.old result buffer.new new)
         (HasNone buffer.old result buffer.new) }
 {
-    let Some(mut taken) = reader.take(alloc) else {
-        return GitwireAnswer::of(What::NoHandle);
-    };
-    let answer = feed(&mut taken.inner, chunk, buffer);
-    reader.put(taken);
-    answer
+    on!(reader, alloc; feed(reader, chunk, buffer))
 }
 
 fn feed(gatherer: &mut Gatherer, chunk: &[u8], buffer: &mut [u8]) -> GitwireAnswer
@@ -75,20 +70,15 @@ fn feed(gatherer: &mut Gatherer, chunk: &[u8], buffer: &mut [u8]) -> GitwireAnsw
     }
 }
 
-/// The stream ends here. `Done` between packets; else `Failed`, or `NoHandle`.
+/// The stream ends here. `Done` between packets; else `Failed`, or `NoRequest`.
 #[unsafe(no_mangle)]
 pub extern "C" fn gitwire_packet_reader_close(
     alloc: Global,
     reader: &mut GitwirePacketReader,
 ) -> GitwireAnswer
-    ensures { On (packet_reader_in reader.old) (packet_reader_in reader.new) (λ old new. ClosesAnswers old result new) (result ≡ answering What.NoHandle) }
+    ensures { On (packet_reader_in reader.old) (packet_reader_in reader.new) (λ old new. ClosesAnswers old result new) (result ≡ answering What.NoRequest) }
 {
-    let Some(mut taken) = reader.take(alloc) else {
-        return GitwireAnswer::of(What::NoHandle);
-    };
-    let answer = close(&mut taken.inner);
-    reader.put(taken);
-    answer
+    on!(reader, alloc; close(reader))
 }
 
 fn close(gatherer: &mut Gatherer) -> GitwireAnswer

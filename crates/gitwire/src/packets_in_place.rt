@@ -8,7 +8,7 @@ ghost use Rattle.gitwire.specs.PayloadsLent.{payload_lent};
 
 use crate::answer::{GitwireAnswer, What};
 use crate::gatherer::Gatherer;
-use crate::handles::{GitwirePacketReader, Holds};
+use crate::handles::{GitwirePacketReader, Holds, on};
 use crate::packet_list::next_packet;
 use std::alloc::Global;
 
@@ -22,7 +22,7 @@ pub struct GitwirePayload<'a> {
 
 /// Fills the array with the packets of the chunk as `gitwire_packet_reader_packets` does, with no buffer: a payload that has more bytes than were
 /// used, which only the first packet can have, stays in the reader, and the array ends with that packet. `gitwire_packet_reader_lend` lends it.
-/// `More`: the chunk is used up, the array is full, or it ends with such a packet; `Failed`; `NoHandle`; and `BufferTooSmall` if the array has no
+/// `More`: the chunk is used up, the array is full, or it ends with such a packet; `Failed`; `NoRequest`; and `BufferTooSmall` if the array has no
 /// place.
 #[unsafe(no_mangle)]
 pub extern "C" fn gitwire_packet_reader_packets_in_place(
@@ -35,12 +35,7 @@ pub extern "C" fn gitwire_packet_reader_packets_in_place(
         (λ old new. ListsInPlace old chunk.now packets.old result packets.new new)
         (ListsNoneInPlace packets.old result packets.new) }
 {
-    let Some(mut taken) = reader.take(alloc) else {
-        return GitwireAnswer::of(What::NoHandle);
-    };
-    let answer = list_in_place(&mut taken.inner, chunk, packets);
-    reader.put(taken);
-    answer
+    on!(reader, alloc; list_in_place(reader, chunk, packets))
 }
 
 /// Lends the payload of the packet that the reader gave last, until the reader is called again; no bytes if the handle has no reader.

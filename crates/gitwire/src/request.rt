@@ -11,7 +11,7 @@ ghost use Rattle.gitwire.specs.Answers.{answering};
 ghost use Rattle.gitwire.specs.RequestAnswers.{is_set, announcing_result, announcing_which};
 
 use crate::answer::{GitwireAnswer, What};
-use crate::handles::{GitwireRequest, Holds, fill};
+use crate::handles::{GitwireRequest, Holds, fill, on};
 use crate::numbers::{command_numbered, format_numbered, number_of_command, number_of_format};
 use crate::request_items::{given_number, has_flag, put_item};
 use git_msg::{Limits, Offer, Request, read_argument};
@@ -63,21 +63,16 @@ fn request_meant(alloc: Global, command: u32, format: u32, limit: u32) -> Option
 }
 
 /// Adds the argument of a line without LF at its end: `want 1111..`, `done`, `ref-prefix refs/heads/`. `Done`; `Failed`, and the request is
-/// unchanged; or `NoHandle`.
+/// unchanged; or `NoRequest`.
 #[unsafe(no_mangle)]
 pub extern "C" fn gitwire_request_add(
     alloc: Global,
     request: &mut GitwireRequest,
     line: &[u8],
 ) -> GitwireAnswer
-    ensures { On (request_in request.old) (request_in request.new) (λ old new. AddsAnswers old line.now result new) (result ≡ answering What.NoHandle) }
+    ensures { On (request_in request.old) (request_in request.new) (λ old new. AddsAnswers old line.now result new) (result ≡ answering What.NoRequest) }
 {
-    let Some(mut taken) = request.take(alloc) else {
-        return GitwireAnswer::of(What::NoHandle);
-    };
-    let answer = add(&mut taken.inner, line);
-    request.put(taken);
-    answer
+    on!(request, alloc; add(request, line))
 }
 
 fn add(request: &mut Request<Global>, line: &[u8]) -> GitwireAnswer
@@ -106,17 +101,12 @@ fn announce(judged: Result<(), Kind>) -> GitwireAnswer
     }
 }
 
-/// Checks whether the request is whole. `Done`; `Failed`, by `DeepenConflict`, `NoWants` or `NoSize`; or `NoHandle`.
+/// Checks whether the request is whole. `Done`; `Failed`, by `DeepenConflict`, `NoWants` or `NoSize`; or `NoRequest`.
 #[unsafe(no_mangle)]
 pub extern "C" fn gitwire_request_end(alloc: Global, request: &mut GitwireRequest) -> GitwireAnswer
-    ensures { Of (request_in request.old) (request_in request.new) (λ had. EndsAnswers (asked_of had) result) (result ≡ answering What.NoHandle) }
+    ensures { Of (request_in request.old) (request_in request.new) (λ had. EndsAnswers (asked_of had) result) (result ≡ answering What.NoRequest) }
 {
-    let Some(taken) = request.take(alloc) else {
-        return GitwireAnswer::of(What::NoHandle);
-    };
-    let answer = judge_end(&taken.inner);
-    request.put(taken);
-    answer
+    on!(request, alloc; judge_end(request))
 }
 
 fn judge_end(request: &Request<Global>) -> GitwireAnswer
@@ -130,12 +120,7 @@ fn judge_end(request: &Request<Global>) -> GitwireAnswer
 pub extern "C" fn gitwire_request_command(alloc: Global, request: &mut GitwireRequest) -> u32
     ensures { Of (request_in request.old) (request_in request.new) (λ had. result ≡ command_number (command_of had)) (result ≡ 0) }
 {
-    let Some(taken) = request.take(alloc) else {
-        return 0;
-    };
-    let answer = number_of_command(taken.inner.command());
-    request.put(taken);
-    answer
+    on!(request, alloc; number_of_command(request.command()), else 0)
 }
 
 /// The number of the format of the request's object names; 0 for a handle without a request.
@@ -143,16 +128,10 @@ pub extern "C" fn gitwire_request_command(alloc: Global, request: &mut GitwireRe
 pub extern "C" fn gitwire_request_format(alloc: Global, request: &mut GitwireRequest) -> u32
     ensures { Of (request_in request.old) (request_in request.new) (λ had. result ≡ format_number (format_of had)) (result ≡ 0) }
 {
-    let Some(taken) = request.take(alloc) else {
-        return 0;
-    };
-    let answer = number_of_format(taken.inner.format());
-    request.put(taken);
-    answer
+    on!(request, alloc; number_of_format(request.format()), else 0)
 }
 
-/// Whether the request has the flag of this number, from `SYMREFS` to `WAIT_FOR_DONE`. For another number, and for a handle without a
-/// request, it is false.
+/// Whether the request has the flag of this number. For a number that no flag has, and for a handle without a request, it is false.
 #[unsafe(no_mangle)]
 pub extern "C" fn gitwire_request_flag(
     alloc: Global,
@@ -161,16 +140,11 @@ pub extern "C" fn gitwire_request_flag(
 ) -> bool
     ensures { Of (request_in request.old) (request_in request.new) (λ had. result ≡ is_set flag (arguments_in (asked_of had))) (result ≡ false) }
 {
-    let Some(taken) = request.take(alloc) else {
-        return false;
-    };
-    let answer = has_flag(taken.inner.arguments(), flag);
-    request.put(taken);
-    answer
+    on!(request, alloc; has_flag(request.arguments(), flag), else false)
 }
 
 /// A number of the request, `DEEPEN` or `DEEPEN_SINCE`: `Done`, and `offset` is the number; `Nothing` if it was not set; `BadValue`; or
-/// `NoHandle`.
+/// `NoRequest`.
 #[unsafe(no_mangle)]
 pub extern "C" fn gitwire_request_number(
     alloc: Global,
@@ -178,18 +152,13 @@ pub extern "C" fn gitwire_request_number(
     which: u32,
 ) -> GitwireAnswer
     ensures { Of (request_in request.old) (request_in request.new) (λ had. result ≡ announcing_which which (arguments_in (asked_of had)))
-        (result ≡ answering What.NoHandle) }
+        (result ≡ answering What.NoRequest) }
 {
-    let Some(taken) = request.take(alloc) else {
-        return GitwireAnswer::of(What::NoHandle);
-    };
-    let answer = given_number(taken.inner.arguments(), which);
-    request.put(taken);
-    answer
+    on!(request, alloc; given_number(request.arguments(), which))
 }
 
 /// Writes the text at an index of a list, from `REF_PREFIXES` to `FILTERS`, to the front of the buffer, an object name as its digits.
-/// `Done`, and `length` is how many bytes it has; `Nothing` past the end of the list; `BufferTooSmall`; `BadValue`; or `NoHandle`.
+/// `Done`, and `length` is how many bytes it has; `Nothing` past the end of the list; `BufferTooSmall`; `BadValue`; or `NoRequest`.
 #[unsafe(no_mangle)]
 pub extern "C" fn gitwire_request_item(
     alloc: Global,
@@ -202,12 +171,7 @@ pub extern "C" fn gitwire_request_item(
         (λ had. PutsFrom (numbered item_words list) (arguments_in (asked_of had)) index buffer.old result buffer.new)
         (HasNone buffer.old result buffer.new) }
 {
-    let Some(taken) = request.take(alloc) else {
-        return GitwireAnswer::of(What::NoHandle);
-    };
-    let answer = put_item(taken.inner.arguments(), list, index, buffer);
-    request.put(taken);
-    answer
+    on!(request, alloc; put_item(request.arguments(), list, index, buffer))
 }
 
 /// Frees the request. The handle has none from then on.

@@ -7,7 +7,7 @@ ghost use Rattle.gitwire.specs.RequestReaderAnswers.{ClosesAnswers, FeedsIn, Fee
 ghost use Rattle.gitwire.specs.Answers.{answering};
 
 use crate::answer::{GitwireAnswer, What};
-use crate::handles::{GitwireRequest, GitwireRequestReader, Holds, Taken, fill};
+use crate::handles::{GitwireRequest, GitwireRequestReader, Holds, Taken, fill, on};
 use crate::offer::offer_numbered;
 use crate::request::MOST_LIMIT;
 use git_msg::{Command, Limits, ReadGot, ReadRequest, Request, RequestStream};
@@ -58,7 +58,7 @@ fn reader_meant(
 
 /// Reads up to the end of the next request. `Request`, and the handle for requests has it instead of what it had before; `More` with the
 /// whole chunk used; `NotNow` after a `Stop`; `Stop` at a flush instead of a request; `Failed` at the first error, and again from then on;
-/// or `NoHandle`. A handle for requests that has none receives an empty one first; `OutOfMemory` if there is no memory for that, and then
+/// or `NoRequest`. A handle for requests that has none receives an empty one first; `OutOfMemory` if there is no memory for that, and then
 /// nothing was read.
 #[unsafe(no_mangle)]
 pub extern "C" fn gitwire_request_reader_feed(
@@ -70,7 +70,7 @@ pub extern "C" fn gitwire_request_reader_feed(
     ensures { FeedsIn (request_reader_in reader.old) chunk.now (request_in request.old) result (request_reader_in reader.new) (request_in request.new) }
 {
     let Some(mut taken) = reader.take(alloc) else {
-        return GitwireAnswer::of(What::NoHandle);
+        return GitwireAnswer::of(What::NoRequest);
     };
     let Some(mut held) = take_request(alloc, request) else {
         reader.put(taken);
@@ -119,20 +119,15 @@ fn feed(
 }
 
 /// The input ends here. `Done` between two requests; `Failed` inside one, as `Truncated`; `NotNow`, and nothing changed, after an error or
-/// a flush instead of a request; or `NoHandle`.
+/// a flush instead of a request; or `NoRequest`.
 #[unsafe(no_mangle)]
 pub extern "C" fn gitwire_request_reader_close(
     alloc: Global,
     reader: &mut GitwireRequestReader,
 ) -> GitwireAnswer
-    ensures { On (request_reader_in reader.old) (request_reader_in reader.new) (λ old new. ClosesAnswers old result new) (result ≡ answering What.NoHandle) }
+    ensures { On (request_reader_in reader.old) (request_reader_in reader.new) (λ old new. ClosesAnswers old result new) (result ≡ answering What.NoRequest) }
 {
-    let Some(mut taken) = reader.take(alloc) else {
-        return GitwireAnswer::of(What::NoHandle);
-    };
-    let answer = close(&mut taken.inner);
-    reader.put(taken);
-    answer
+    on!(reader, alloc; close(reader))
 }
 
 fn close(reader: &mut RequestStream<Global>) -> GitwireAnswer

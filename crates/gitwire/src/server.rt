@@ -7,20 +7,18 @@ ghost use Rattle.gitwire.specs.Answers.{answering, what_number};
 ghost use Rattle.gitwire.specs.ServerAnswers.{BeginsOver, BeginsWithin, ClosesAnswers, FeedsAnswers, PullsInBuffer, Starts};
 
 use crate::answer::{GitwireAnswer, What};
-use crate::handles::{GitwireRepository, GitwireServer, Holds, fill};
+use crate::handles::{GitwireRepository, GitwireServer, Holds, fill, on};
+use crate::request::MOST_LIMIT;
 use git_msg::{Limits, Offer};
 use git_names::Steps;
 use git_pkt::LONGEST_PACKET;
-use git_server::{Outcome, Pulled, Repo, Server, SharedRepo};
+use git_server::{Pulled, Repo, Server, SharedRepo};
 use std::alloc::Global;
 use std::mem::replace;
 
-/// The maximum of a limit on what is kept of a request.
-const MOST_KEPT: u32 = 1_073_741_824;
-
 /// Makes the handle's server a new one over the repository, which stays with its own handle. It advertises all that the protocol has, keeps
 /// at most `limit` bytes of a request's arguments, and sends the advertisement first if `advertise` is set. What the handle had before is
-/// freed. `Done`; `NoHandle` if there is no repository and `BadValue` if the limit is above 1,073,741,824, and the handle is unchanged; or
+/// freed. `Done`; `NoRequest` if there is no repository and `BadValue` if the limit is above 1,073,741,824, and the handle is unchanged; or
 /// `OutOfMemory`, and the handle has none.
 #[unsafe(no_mangle)]
 pub extern "C" fn gitwire_server_init(
@@ -33,12 +31,7 @@ pub extern "C" fn gitwire_server_init(
     ensures begins { BeginsOver (repository_in repository.old) limit advertise (server_in server.old) result (server_in server.new) }
     ensures stays { repository_in repository.new ≡ repository_in repository.old }
 {
-    let Some(taken) = repository.take(alloc) else {
-        return What::NoHandle.number();
-    };
-    let answer = begin(alloc, server, &taken.inner, limit, advertise);
-    repository.put(taken);
-    answer
+    on!(repository, alloc; begin(alloc, server, repository, limit, advertise), else What::NoRequest.number())
 }
 
 fn begin(
@@ -50,7 +43,7 @@ fn begin(
 ) -> u32
     ensures { BeginsWithin repo.now limit advertise (server_in server.old) result (server_in server.new) }
 {
-    if limit > MOST_KEPT {
+    if limit > MOST_LIMIT {
         return What::BadValue.number();
     }
     *server = GitwireServer::none(alloc);
@@ -81,21 +74,16 @@ fn make(
 }
 
 /// Takes bytes of the input: all of them, or those up to the end of a request, a flush instead of one, or an error. None is used while a
-/// packet waits to be pulled, nor after the end: `NotNow`. `More`, and how many were used; or `NoHandle`.
+/// packet waits to be pulled, nor after the end: `NotNow`. `More`, and how many were used; or `NoRequest`.
 #[unsafe(no_mangle)]
 pub extern "C" fn gitwire_server_feed(
     alloc: Global,
     server: &mut GitwireServer,
     chunk: &[u8],
 ) -> GitwireAnswer
-    ensures { On (server_in server.old) (server_in server.new) (λ old new. FeedsAnswers old chunk.now result new) (result ≡ answering What.NoHandle) }
+    ensures { On (server_in server.old) (server_in server.new) (λ old new. FeedsAnswers old chunk.now result new) (result ≡ answering What.NoRequest) }
 {
-    let Some(mut taken) = server.take(alloc) else {
-        return GitwireAnswer::of(What::NoHandle);
-    };
-    let answer = feed(&mut taken.inner, chunk);
-    server.put(taken);
-    answer
+    on!(server, alloc; feed(server, chunk))
 }
 
 fn feed(server: &mut Server<SharedRepo, Global>, chunk: &[u8]) -> GitwireAnswer
@@ -106,17 +94,12 @@ fn feed(server: &mut Server<SharedRepo, Global>, chunk: &[u8]) -> GitwireAnswer
     GitwireAnswer::of_used(used, What::more(expected))
 }
 
-/// The input ends here. `Done`; `NotNow` if the server expects no bytes, and nothing changed; or `NoHandle`.
+/// The input ends here. `Done`; `NotNow` if the server expects no bytes, and nothing changed; or `NoRequest`.
 #[unsafe(no_mangle)]
 pub extern "C" fn gitwire_server_close(alloc: Global, server: &mut GitwireServer) -> u32
-    ensures { On (server_in server.old) (server_in server.new) (λ old new. ClosesAnswers old result new) (result ≡ what_number What.NoHandle) }
+    ensures { On (server_in server.old) (server_in server.new) (λ old new. ClosesAnswers old result new) (result ≡ what_number What.NoRequest) }
 {
-    let Some(mut taken) = server.take(alloc) else {
-        return What::NoHandle.number();
-    };
-    let answer = close(&mut taken.inner);
-    server.put(taken);
-    answer
+    on!(server, alloc; close(server), else What::NoRequest.number())
 }
 
 fn close(server: &mut Server<SharedRepo, Global>) -> u32
@@ -130,7 +113,7 @@ fn close(server: &mut Server<SharedRepo, Global>) -> u32
 }
 
 /// The next packet to be sent, copied to the front of the buffer, or what to do instead. `Packet`, `NeedInput`, `EndedByFlush`,
-/// `EndedByClose` or `Failed`; `NoHandle`; and `BufferTooSmall` if the buffer has fewer than 65,520 bytes.
+/// `EndedByClose` or `Failed`; `NoRequest`; and `BufferTooSmall` if the buffer has fewer than 65,520 bytes.
 #[unsafe(no_mangle)]
 pub extern "C" fn gitwire_server_pull(
     alloc: Global,
@@ -140,12 +123,7 @@ pub extern "C" fn gitwire_server_pull(
     ensures { On (server_in server.old) (server_in server.new) (λ old new. PullsInBuffer old buffer.old result buffer.new new)
         (HasNone buffer.old result buffer.new) }
 {
-    let Some(mut taken) = server.take(alloc) else {
-        return GitwireAnswer::of(What::NoHandle);
-    };
-    let answer = pull(&mut taken.inner, buffer);
-    server.put(taken);
-    answer
+    on!(server, alloc; pull(server, buffer))
 }
 
 fn pull(server: &mut Server<SharedRepo, Global>, buffer: &mut [u8]) -> GitwireAnswer
@@ -160,11 +138,7 @@ fn pull(server: &mut Server<SharedRepo, Global>, buffer: &mut [u8]) -> GitwireAn
             buffer[..bytes.len()].copy_from_slice(bytes);
             GitwireAnswer::of_packet(0, 0, bytes.len(), What::Packet)
         }
-        Pulled::Finished(outcome) => match outcome {
-            Outcome::Flush => GitwireAnswer::of(What::EndedByFlush),
-            Outcome::Closed => GitwireAnswer::of(What::EndedByClose),
-            Outcome::Refused(fault) => GitwireAnswer::of_fault(0, fault),
-        },
+        Pulled::Finished(outcome) => GitwireAnswer::of_end(outcome),
     }
 }
 

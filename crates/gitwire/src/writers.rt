@@ -9,10 +9,10 @@ ghost use Rattle.gitwire.specs.WrittenForC.{Advertises, Makes, MeansBand, MeansE
 
 use crate::answer::{GitwireAnswer, What};
 use crate::buffers::fill;
-use crate::handles::{GitwireWriter, Holds};
+use crate::handles::{GitwireWriter, Holds, on};
 use crate::offer::offer_numbered;
 use crate::packets::LONGEST_PAYLOAD;
-use crate::written::{Unwritten, hand_out};
+use crate::written::{Unwritten, hand_out, write_packet};
 use git_msg::put_line;
 use git_pkt::{Band, Hold, Kind, Packet, put, put_band};
 use git_server::put_advertisement;
@@ -31,13 +31,7 @@ pub extern "C" fn gitwire_put_packet(
 ) -> GitwireAnswer
     ensures { WritesIn (writer_in writer.old) (Writes (MeansPacket kind payload.now)) buffer.old result buffer.new (writer_in writer.new) }
 {
-    let Some(mut taken) = writer.take(alloc) else {
-        return GitwireAnswer::of(What::NoHandle);
-    };
-    let made = make_packet(&mut taken.inner.hold, kind, payload);
-    let answer = hand_out(made, &taken.inner.hold, buffer);
-    writer.put(taken);
-    answer
+    write_packet!(writer, alloc; make_packet(&mut writer.hold, kind, payload), buffer)
 }
 
 /// Writes a packet with these bytes on a band, 1, 2 or 3, to the front of the buffer. Another number is BadValue, and then
@@ -53,13 +47,7 @@ pub extern "C" fn gitwire_put_band(
 ) -> GitwireAnswer
     ensures { WritesIn (writer_in writer.old) (Writes (MeansBand band bytes.now)) buffer.old result buffer.new (writer_in writer.new) }
 {
-    let Some(mut taken) = writer.take(alloc) else {
-        return GitwireAnswer::of(What::NoHandle);
-    };
-    let made = make_band(&mut taken.inner.hold, band, bytes);
-    let answer = hand_out(made, &taken.inner.hold, buffer);
-    writer.put(taken);
-    answer
+    write_packet!(writer, alloc; make_band(&mut writer.hold, band, bytes), buffer)
 }
 
 /// Writes the packet of a line to the front of the buffer: the text and LF. More than 65,515 bytes are BadLine.
@@ -73,13 +61,7 @@ pub extern "C" fn gitwire_put_line(
 ) -> GitwireAnswer
     ensures { WritesIn (writer_in writer.old) (Writes (MeansLine text.now)) buffer.old result buffer.new (writer_in writer.new) }
 {
-    let Some(mut taken) = writer.take(alloc) else {
-        return GitwireAnswer::of(What::NoHandle);
-    };
-    let made = make_line(&mut taken.inner.hold, b"", text);
-    let answer = hand_out(made, &taken.inner.hold, buffer);
-    writer.put(taken);
-    answer
+    write_packet!(writer, alloc; make_line(&mut writer.hold, b"", text), buffer)
 }
 
 /// Writes an error packet, gitprotocol-pack(5), to the front of the buffer: `ERR `, the text and LF. More than 65,511 bytes
@@ -94,13 +76,7 @@ pub extern "C" fn gitwire_put_error(
 ) -> GitwireAnswer
     ensures { WritesIn (writer_in writer.old) (Writes (MeansError text.now)) buffer.old result buffer.new (writer_in writer.new) }
 {
-    let Some(mut taken) = writer.take(alloc) else {
-        return GitwireAnswer::of(What::NoHandle);
-    };
-    let made = make_line(&mut taken.inner.hold, b"ERR ", text);
-    let answer = hand_out(made, &taken.inner.hold, buffer);
-    writer.put(taken);
-    answer
+    write_packet!(writer, alloc; make_line(&mut writer.hold, b"ERR ", text), buffer)
 }
 
 /// Writes the whole advertisement of a format and the features of a sum, each packet up to its flush, to the front of the buffer: fewer than
@@ -115,12 +91,7 @@ pub extern "C" fn gitwire_put_advertisement(
 ) -> GitwireAnswer
     ensures { WritesIn (writer_in writer.old) (Advertises (offer_meant format features)) buffer.old result buffer.new (writer_in writer.new) }
 {
-    let Some(mut taken) = writer.take(alloc) else {
-        return GitwireAnswer::of(What::NoHandle);
-    };
-    let answer = advertise(&mut taken.inner.hold, format, features, buffer);
-    writer.put(taken);
-    answer
+    on!(writer, alloc; advertise(&mut writer.hold, format, features, buffer))
 }
 
 fn advertise(hold: &mut Hold, format: u32, features: u32, buffer: &mut [u8]) -> GitwireAnswer

@@ -26,6 +26,18 @@ impl From<NameFault> for Unwritten {
     }
 }
 
+/// Makes a packet in the hold of the handle's writer, and copies it to the front of the buffer.
+macro_rules! write_packet {
+    ($writer:ident, $alloc:ident; $makes:expr, $buffer:ident) => {
+        on!($writer, $alloc; {
+            let made = $makes;
+            hand_out(made, &$writer.hold, $buffer)
+        })
+    };
+}
+
+pub(crate) use write_packet;
+
 /// Copies the packet that was made to the front of the buffer, or reports why there is none.
 pub(crate) fn hand_out(made: Result<(), Unwritten>, hold: &Hold, buffer: &mut [u8]) -> GitwireAnswer
     ensures made { OnOk made (Fills hold.now.items buffer.old result buffer.new) }

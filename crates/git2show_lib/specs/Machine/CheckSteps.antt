@@ -1,5 +1,5 @@
 -- What the steps of a check do: the next request is read, and then what is left over of the responses.
-use Rattle.std.specs.Prelude.{◌≡◌, ◌⊎◌, ℕ, ◌<◌, Bool, true, false, List, [], ◌∷◌, ◌++◌, length, Option, Some, None, Result, Ok, Err}
+use Rattle.std.specs.Prelude.{◌≡◌, ◌⊎◌, ℕ, ◌<◌, Bool, true, false, List, [], ◌∷◌, ◌++◌, length, None, Result, Ok, Err}
 use Rattle.std.specs.Io.KnownBytes.{Consumes}
 use Rattle.git_pkt.specs.Splits.{Given}
 use Rattle.git_pkt.specs.Faults.{IsOpen}
@@ -7,9 +7,8 @@ use Rattle.git_pkt.specs.Streams.{Flow, flow, IsTimely}
 use Rattle.git_pkt.specs.declared.fault.Fault.{Fault}
 use Rattle.git_pkt.specs.declared.fault.RunFault.{RunFault}
 use Rattle.git_pkt.specs.declared.fault.Kind.TheVariants.{UnexpectedPacket}
-use Rattle.git_msg.specs.Machine.HeldRequest.{asked_of, format_of}
+use Rattle.git_msg.specs.Machine.HeldRequest.{format_of}
 use Rattle.git_msg.specs.Requests.{IsStop}
-use Rattle.git_msg.specs.declared.requests.Request.{Request}
 use Rattle.git_client.specs.Machine.RunSteps.{ReceivesResponse, ReceivesWholeResponse, window_of}
 use Rattle.git_client.specs.declared.client.Client.{Client}
 use Rattle.git_client.specs.declared.receiving.Window.{Window}

@@ -1,11 +1,11 @@
 -- What a check does for a request: it asks it, writes its lines, and receives what comes for it.
-use Rattle.std.specs.Prelude.{◌≡◌, ◌⊎◌, ℕ, ◌+◌, ◌-◌, ◌≤◌, min, Bool, true, false, List, ◌++◌, length, Option, Some, None, Result, Ok, Err}
+use Rattle.std.specs.Prelude.{◌≡◌, ◌⊎◌, ℕ, ◌+◌, ◌-◌, min, Bool, true, false, List, Option, Some, None, Result, Ok, Err}
 use Rattle.git_names.specs.declared.object_format.Format.{Format}
 use Rattle.git_pkt.specs.Streams.{Flow, flow, WrittenAs}
 use Rattle.git_pkt.specs.declared.fault.RunFault.{RunFault}
 use Rattle.git_pkt.specs.declared.fault.RunFault.TheVariants.{WriteFault, Refused}
-use Rattle.git_client.specs.Machine.Client.{bytes_used, can_ask, wants_input}
-use Rattle.git_client.specs.Machine.RunSteps.{AsksNext, AsksNot, ReceivesResponse, ReceivesWholeResponse, window_of}
+use Rattle.git_client.specs.Machine.Client.{bytes_used, wants_input}
+use Rattle.git_client.specs.Machine.RunSteps.{AsksNext, AsksNot, ReceivesResponse, ReceivesWholeResponse}
 use Rattle.git_client.specs.declared.client.Client.{Client}
 use Rattle.git_client.specs.declared.events.Ending.{Ending}
 use Rattle.git2show_lib.specs.OtherLines.{form_asked}

@@ -1,4 +1,4 @@
--- Four lists, each at its place.
+-- Lists, each at its place.
 use Rattle.std.specs.Prelude.{ℕ, All, List, Vec, [], ◌∷◌, get_or, length, map, sum_by}
 use Rattle.git_msg.specs.declared.parts.Lists.{Lists}
 use Rattle.git_msg.specs.declared.words.TextWord.{TextWord}

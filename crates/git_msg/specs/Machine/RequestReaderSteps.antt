@@ -4,19 +4,18 @@ use Rattle.git_pkt.specs.Packets.{Pkt, flush}
 use Rattle.git_pkt.specs.declared.fault.Kind.{Kind}
 use Rattle.git_pkt.specs.declared.fault.Kind.TheVariants.{OutOfMemory}
 use Rattle.git_msg.specs.declared.arguments.Command.{Command}
-use Rattle.git_msg.specs.declared.requests.Request.{Request}
 use Rattle.git_msg.specs.declared.reader.Part.TheVariants.{Capabilities}
-use Rattle.git_msg.specs.declared.reader.ReadGot.{ReadGot}
-use Rattle.git_msg.specs.declared.reader.ReadGot.TheVariants.{More, Request as Whole, Stop, Failed}
 use Rattle.git_msg.specs.declared.reader.RequestReader.{RequestReader}
+use Rattle.git_msg.specs.declared.reader.Taken.{Taken}
+use Rattle.git_msg.specs.declared.reader.Taken.TheVariants.{More, Whole, Stop}
 use Rattle.git_msg.specs.Admission.{IsBarred}
 use Rattle.git_msg.specs.Arguments.{Arg, TakesMemory}
 use Rattle.git_msg.specs.Asked.{asked_by}
-use Rattle.git_msg.specs.Machine.HeldRequest.{asked_of, command_of, format_of, kept_of}
+use Rattle.git_msg.specs.Machine.HeldRequest.{asked_of, command_of, kept_of}
 use Rattle.git_msg.specs.Checks.{Passes, Refuses}
 use Rattle.git_msg.specs.Lines.{Line, command, object_format, argument, commands_of, arguments_of, kept_in, IsCapabilityLine}
 use Rattle.git_msg.specs.Lines.{IsLine, HasFault, part_checks, flush_checks, is_none}
-use Rattle.git_msg.specs.Machine.RequestReader.{InCapabilities, InLines, IsCovered, IsWithin, fault_of, limit_in}
+use Rattle.git_msg.specs.Machine.RequestReader.{InCapabilities, InLines, fault_of, limit_in}
 
 module _ {A : Type 0} where
   -- no command line has come yet
@@ -63,16 +62,13 @@ module _ {A : Type 0} where
     pub free : IsFree barred lines old p
     pub in_lines : InLines new.part (lines ++ line ∷ []) new
 
-  -- the lines are those of a whole request
-  pub record Completes (lines : List Line) (old : RequestReader A) (p : Pkt) (q : Request A) (new : RequestReader A) : Type 0 where
+  -- the lines are those of a whole request, which is kept
+  pub record Completes (lines : List Line) (old : RequestReader A) (p : Pkt) (new : RequestReader A) : Type 0 where
     pub ends : p ≡ flush
-    pub once : commands_of lines ≡ command_of q ∷ []
+    pub once : commands_of lines ≡ command_of new.request ∷ []
     pub checks : Passes (flush_checks old.offer lines)
-    pub asked : asked_of q ≡ asked_by (command_of q) (arguments_of lines)
-    pub kept : kept_of q ≡ kept_in lines
-    pub format : format_of q ≡ new.offer.format
-    pub fresh : InCapabilities [] new
-    pub part : new.part ≡ Capabilities
+    pub asked : asked_of new.request ≡ asked_by (command_of new.request) (arguments_of lines)
+    pub kept : kept_of new.request ≡ kept_in lines
 
   -- the other end ends the session
   pub record Leaves (lines : List Line) (p : Pkt) (new : RequestReader A) : Type 0 where
@@ -89,22 +85,20 @@ module _ {A : Type 0} where
     pub takes_memory : TakesMemory arg
     pub name : kind ≡ OutOfMemory
 
-  abbrev pub Goes : (Arg → Option Kind) → List Line → RequestReader A → Pkt → Result (ReadGot A) Kind → RequestReader A → Type 0
+  abbrev pub Goes : (Arg → Option Kind) → List Line → RequestReader A → Pkt → Result Taken Kind → RequestReader A → Type 0
   Goes barred lines old p (Ok More) new = Advances barred lines old p new
-  Goes barred lines old p (Ok (Whole q)) new = Completes lines old p q new
+  Goes barred lines old p (Ok Whole) new = Completes lines old p new
   Goes barred lines old p (Ok Stop) new = Leaves lines p new
-  Goes barred lines old p (Ok (Failed fault)) new = ⊥
   Goes barred lines old p (Err kind) new =
       IsBarred old.offer barred lines p kind
       ⊎ (IsFree barred lines old p × (HasFault old.offer (limit_in old) lines p kind ⊎ LacksMemory lines old p kind))
 
-  abbrev pub LeavesStep : Result (ReadGot A) Kind → RequestReader A → RequestReader A → Type 0
-  LeavesStep (Ok (Failed fault)) old new = ⊥
-  LeavesStep (Ok got) old new = (fault_of new ≡ None) × IsWithin got new × IsCovered got
+  abbrev pub LeavesStep : Result Taken Kind → RequestReader A → RequestReader A → Type 0
+  LeavesStep (Ok taken) old new = fault_of new ≡ None
   LeavesStep (Err kind) old new = new ≡ old
 
   -- the effect of a packet on a reader that has no fault
-  pub record StepsOn (barred : Arg → Option Kind) (old : RequestReader A) (p : Pkt) (result : Result (ReadGot A) Kind) (new : RequestReader A) : Type 0 where
+  pub record StepsOn (barred : Arg → Option Kind) (old : RequestReader A) (p : Pkt) (result : Result Taken Kind) (new : RequestReader A) : Type 0 where
     pub goes : (lines : List Line) → InLines old.part lines old → Goes barred lines old p result new
     pub leaves : LeavesStep result old new
     pub offer : new.offer ≡ old.offer

@@ -1,10 +1,11 @@
-use Rattle.std.proofs.Common.{arith, ◌≡◌, ◌+◌, ◌∙◌, ap, sym, true, false, length, length-drop}
+use Rattle.std.proofs.Common.{◌≡◌, ◌+◌, ◌∙◌, sym, true, false, List, ℕ}
 use Rattle.git_pkt.specs.Packets.{seen}
 use Rattle.git_pkt.specs.Splits.{Given}
-use Rattle.git_pkt.proofs.Chunks.{left_of}
 use Rattle.git_msg.proofs.StreamSteps.{feeds_with}
 use Rattle.git2show_lib.specs.Others.{is_last}
-use Rattle.git2show_lib.proofs.PassedAnswers.{breaks_further, breaks_there, passed_further, passed_whole, passes_further, passes_packet, shown_further}
+use Rattle.git2show_lib.specs.Machine.OtherAnswers.{BreaksOff, HasPassed, Passes}
+use Rattle.git2show_lib.proofs.ChunkParts.{shown_further, within_further}
+use Rattle.git2show_lib.proofs.PassedAnswers.{breaks_there, passed_whole, passes_further, passes_packet}
 use Rattle.git2show_lib.proofs.other_answers.pass_chunk.Goals as goal
 
 pub returns-in-Failed : goal.returns-in-Failed
@@ -22,9 +23,9 @@ returns-in-Failed c =
     record {
       used = done + fed.used;
       breaks =
-          breaks_further c.args.ending old mid chunk done was.within was.passes fault fed.used
+          passes_further c.args.ending old mid chunk done was.within was.passes (λ (l : List ℕ). BreaksOff c.args.ending l fault) fed.used
           (λ bytes h. breaks_there c.args.ending mid new bytes _ h fault feeds.reads feeds.announces shown.not_the_end);
-      shown = shown_further c.args.ending old mid chunk done was.within was.passes fault fed.used shown;
+      shown = shown_further chunk done was.within fault fed.used shown;
     }
 
 pub returns-then-is_last : goal.returns-then-is_last
@@ -40,9 +41,9 @@ returns-then-is_last c =
     let feeds = feeds_with mid new _ fed _ c.in-Packet.is c.feed-fed.follows.holds-at-none in
     let last : is_last c.args.ending given.packet ≡ true = sym c.is_last.ensures ∙ c.if-is_last.true in
     record {
-      within = omega (arith, c.feed-fed.ensures.used, ap length (left_of chunk done was.within), length-drop done chunk);
+      within = within_further chunk done was.within fed.used c.feed-fed.ensures.used;
       passes =
-          passed_further c.args.ending old mid chunk done was.within was.passes new fed.used
+          passes_further c.args.ending old mid chunk done was.within was.passes (λ (l : List ℕ). HasPassed c.args.ending l new) fed.used
           (λ bytes h. passed_whole c.args.ending mid new bytes _ h given feeds.reads last feeds.announces.1 feeds.announces.2);
     }
 
@@ -59,10 +60,10 @@ loop-used-preserved c =
     let feeds = feeds_with mid new _ fed _ c.in-Packet.is c.feed-fed.follows.holds-at-none in
     let other : is_last c.args.ending given.packet ≡ false = sym c.is_last.ensures ∙ c.if-is_last.false in
     record {
-      within = omega (arith, c.feed-fed.ensures.used, ap length (left_of chunk done was.within), length-drop done chunk);
+      within = within_further chunk done was.within fed.used c.feed-fed.ensures.used;
       sound = feeds.announces.1;
       gathers = c.feed-fed.follows.holds-at-none.gathers;
       passes =
-          passes_further c.args.ending old mid chunk done was.within was.passes new fed.used
+          passes_further c.args.ending old mid chunk done was.within was.passes (λ (l : List ℕ). Passes c.args.ending l new) fed.used
           (λ bytes h. passes_packet c.args.ending mid new bytes _ h given feeds.reads other);
     }

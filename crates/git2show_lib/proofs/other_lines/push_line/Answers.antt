@@ -1,5 +1,5 @@
-use Rattle.std.proofs.Common.{rules, ◌∙◌, ◌++◌, append_assoc, codes, ap, List, ℕ, ◌≡◌}
-use Rattle.git2show_lib.proofs.LinesEscaped.{escaped_all, escaped_more, escaped_none}
+use Rattle.std.proofs.Common.{rules, ◌∙◌, ℕ}
+use Rattle.git2show_lib.proofs.LinesEscaped.{escaped_more, escaped_none}
 use Rattle.git2show_lib.proofs.other_lines.push_line.Goals as goal
 
 pub loop-block-init : goal.loop-block-init

@@ -8,7 +8,8 @@ use Rattle.git_msg.proofs.StreamSteps.{feeds_with}
 use Rattle.git_client.specs.Machine.Client.{wants_input}
 use Rattle.git2show_lib.specs.Machine.Sieving.{SievesChunkTo, stage}
 use Rattle.git2show_lib.proofs.SievedPackets.{sieves_nothing}
-use Rattle.git2show_lib.proofs.SievedChunks.{packet_ends, packet_further, chunk_breaks, chunk_used, ready_behind, within_further}
+use Rattle.git2show_lib.proofs.ChunkParts.{within_further}
+use Rattle.git2show_lib.proofs.SievedChunks.{packet_ends, packet_further, chunk_breaks, chunk_used, ready_behind}
 use Rattle.git2show_lib.proofs.sieved_response.receive_packets.Goals as goal
 
 pub loop-used-init : goal.loop-used-init
@@ -75,9 +76,7 @@ loop-used-preserved g c =
     let feeds = feeds_with c.loop-used.packets new _ c.feed-fed.result _ c.in-Packet.is c.feed-fed.follows.holds-at-none in
     let step = c.in_ok-receive_packet-in-Packet.ensures in
     record {
-      within =
-          within_further c.args.sieve.now.form old mid c.args.chunk.now c.loop-used.used was.within was.sieves waits c.feed-fed.result.used
-          c.feed-fed.ensures.used;
+      within = within_further c.args.chunk.now c.loop-used.used was.within c.feed-fed.result.used c.feed-fed.ensures.used;
       sound = feeds.announces.1;
       gathers = c.feed-fed.follows.holds-at-none.gathers;
       sound_out = search rules;

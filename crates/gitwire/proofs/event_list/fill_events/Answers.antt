@@ -1,7 +1,8 @@
 use Rattle.std.proofs.Common.{arith, ◌≡◌, ◌∙◌, ◌<◌, ◌+◌, ◌⊎◌, inl, inr, ap, length, refl, sym}
 use Rattle.git_pkt.specs.Packets.{longest_payload}
+use Rattle.gitwire.specs.declared.answer.GitwireAnswer.{GitwireAnswer}
 use Rattle.gitwire.specs.declared.event_list.Extent.{Extent}
-use Rattle.gitwire.proofs.ListedEvents.{end_within, listed_more, nothing_listed, some_listed, stopped_full, stopped_none, stopped_turn}
+use Rattle.gitwire.proofs.ListedEvents.{end_within, listed_more, nothing_listed, paused_full, paused_turn, some_listed, stopped, stopped_none}
 use Rattle.gitwire.proofs.event_list.fill_events.Goals as goal
 use Rattle.gitwire.proofs.event_list.fill_events.Goals.{then-loop-so_far-test+else-buffer-so_far-ge-LONGEST_PARTS, else-loop-so_far-test}
 
@@ -31,14 +32,13 @@ returns-then-can_ask c =
     listed_more c.args.client.now c.loop-so_far.client c.next.new.client c.args.chunk.now c.args.events.now c.args.buffer.now c.loop-so_far.so_far.used
     c.loop-so_far.so_far.count c.loop-so_far.so_far.texts c.loop-so_far.events c.next.new.events c.loop-so_far.buffer c.next.new.buffer further
     before.so_far place gives in
-    stopped_turn c.args.client.now c.next.new.client c.args.chunk.now c.args.events.now c.args.buffer.now further.used
+    stopped c.args.client.now c.next.new.client c.args.chunk.now c.args.events.now c.args.buffer.now further.used
     further.count further.texts c.answer.result c.next.new.events c.next.new.buffer more
     (end_within _ _ _ _ _ _ _ _ _ _ _ gives)
     (omega (arith, place, counts))
     (omega (arith, gives.texts_fit, before.same_buffer))
-    (omega (arith, counts))
-    (sym c.can_ask.ensures.value ∙ c.if-can_ask.true)
-    c.answer.ensures
+    (ap (λ (a : GitwireAnswer). a.used) c.answer.ensures)
+    (paused_turn _ _ _ _ _ _ _ (omega (arith, counts)) (sym c.can_ask.ensures.value ∙ c.if-can_ask.true) c.answer.ensures)
 
 pub loop-so_far-preserved : goal.loop-so_far-preserved
 loop-so_far-preserved c =
@@ -83,6 +83,7 @@ returns c =
           inr (omega (arith, w.if-buffer-so_far-ge-LONGEST_PARTS.false, before.same_buffer))
       | else-loop-so_far-test w ↦ inl (omega (arith, w.loop-so_far-test.false, before.same_places, before.count_fits))
     ] in
-    stopped_full c.args.client.now c.loop-so_far.client c.args.chunk.now c.args.events.now c.args.buffer.now c.loop-so_far.so_far.used
+    stopped c.args.client.now c.loop-so_far.client c.args.chunk.now c.args.events.now c.args.buffer.now c.loop-so_far.so_far.used
     c.loop-so_far.so_far.count c.loop-so_far.so_far.texts c.answer-2.result c.loop-so_far.events c.loop-so_far.buffer before.so_far before.within
-    before.count_fits before.texts_fit some (before.turn some) why c.answer-2.ensures
+    before.count_fits before.texts_fit (ap (λ (a : GitwireAnswer). a.used) c.answer-2.ensures)
+    (paused_full _ _ _ _ _ _ _ some (before.turn some) why c.answer-2.ensures)

@@ -1,8 +1,8 @@
-use Rattle.std.proofs.Common.{arith, ◌++◌, ◌+◌, ◌∙◌, ap, subst, take, length, length-drop, append-nil, List}
-use Rattle.git_pkt.proofs.Chunks.{left_of}
+use Rattle.std.proofs.Common.{◌++◌, ◌+◌, ◌∙◌, subst, take, append-nil, List}
 use Rattle.git2show_lib.specs.OtherLines.{Question}
 use Rattle.git2show_lib.specs.Machine.JudgedRequests.{HasRead}
 use Rattle.git2show_lib.specs.declared.judged_requests.JudgedGot.TheVariants.{More}
+use Rattle.git2show_lib.proofs.ChunkParts.{within_further}
 use Rattle.git2show_lib.proofs.JudgedSteps.{leaves_further, reads_further, shows_further, steps_with}
 use Rattle.git2show_lib.proofs.judged_requests.JudgedRequests.feed.Goals as goal
 
@@ -17,7 +17,7 @@ loop-used-preserved g c =
     let was = c.loop-used.invariant in
     let steps = steps_with mid new _ read More c.in-More.is c.step-step.ensures.steps in
     record {
-      within = omega (arith, c.step-step.ensures.used, ap length (left_of chunk done was.within), length-drop done chunk);
+      within = within_further chunk done was.within read.used c.step-step.ensures.used;
       reads = λ used asked h.
           subst (λ (qs : List Question). HasRead (used ++ take (done + read.used) chunk) qs new) (append-nil asked)
           (reads_further old mid new chunk done was.within read.used More steps was.reads used asked h);
@@ -37,7 +37,7 @@ returns-in_default g c =
     let was = c.loop-used.invariant in
     let steps = c.step-step.ensures.steps in
     record {
-      used = omega (arith, c.step-step.ensures.used, ap length (left_of chunk done was.within), length-drop done chunk);
+      used = within_further chunk done was.within read.used c.step-step.ensures.used;
       feeds = record {
         reads = reads_further old mid new chunk done was.within read.used read.got steps was.reads;
         leaves = leaves_further new chunk done read.used read.got c.in_default.not-More steps.leaves;

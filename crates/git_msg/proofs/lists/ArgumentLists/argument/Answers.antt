@@ -1,4 +1,4 @@
-use Rattle.std.proofs.Common.{arith, rules, ◌≡◌, ◌+◌, ◌-◌, ℕ, ap, drop, sym, ◌∙◌}
+use Rattle.std.proofs.Common.{arith, rules, ◌≡◌, ◌+◌, ◌-◌, ℕ, ap, drop, length, sym, ◌∙◌}
 use Rattle.std.specs.Prelude.{slice_get}
 use Rattle.std.specs.List.{flat_map}
 use Rattle.git_msg.specs.Arguments.{words}
@@ -19,7 +19,7 @@ loop-word-preserved g c =
 
 pub returns : goal.returns
 returns g c =
-    let past : c.loop-word.word-index ≡ 21 = omega arith in
+    let past : c.loop-word.word-index ≡ length words = omega arith in
     sym (c.loop-word.invariant ∙ ap (λ (n : ℕ). slice_get (flat_map (held_at c.args.self.now) (drop n words)) c.loop-word.left) past)
 
 pub returns-then-left-count : goal.returns-then-left-count

@@ -25,10 +25,9 @@ returns-in_ok-command-in-Delim-clause-goes_on g c barred =
 
 pub returns-in_ok-check_end-in-Flush-clause-goes_on : goal.returns-in_ok-check_end-in-Flush-clause-goes_on
 returns-in_ok-check_end-in-Flush-clause-goes_on g c barred =
-    rw (c.in-Flush.is, c.restart.ensures.given)
-    (flushed barred c.args.self.now c.restart.new.self c.in_ok-command-in-Flush.command c.empty_request-request.result c.requires
-    c.in_ok-command-in-Flush.ensures.command c.empty_request-request.ensures c.in_ok-check_end-in-Flush.ensures c.restart.ensures.next
-    c.restart.ensures.fresh c.restart.ensures.part c.restart.ensures.offer)
+    rw c.in-Flush.is
+    (flushed barred c.args.self.now c.in_ok-command-in-Flush.command c.empty_request-request.result _ c.requires
+    c.in_ok-command-in-Flush.ensures.command c.empty_request-request.ensures c.in_ok-check_end-in-Flush.ensures)
 
 pub returns-in_err-check_end-in-Flush-clause-goes_on : goal.returns-in_err-check_end-in-Flush-clause-goes_on
 returns-in_err-check_end-in-Flush-clause-goes_on g c = search (rules, err_from_is_err_and, flush_refused)

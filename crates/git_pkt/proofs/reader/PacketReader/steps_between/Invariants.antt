@@ -2,7 +2,7 @@ use Rattle.std.proofs.Common.{◌≡◌, ◌≤◌, ◌+◌, ◌-◌, ◌*◌, [
 use Rattle.git_names.specs.Steps.{TakesAtMost}
 use Rattle.git_pkt.specs.Machine.PacketReader.{fault_of, held_of, open_length}
 use Rattle.git_pkt.specs.Machine.BandReader.{MayPass, ReadsBandsOn}
-use Rattle.git_pkt.proofs.reader.PacketReader.band_steps.Given as goal
+use Rattle.git_pkt.proofs.reader.PacketReader.steps_between.Given as goal
 
 -- the packets so far gave nothing
 abbrev pub invariant-loop-used : goal.invariant-loop-used

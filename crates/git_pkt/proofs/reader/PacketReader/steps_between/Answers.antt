@@ -6,7 +6,7 @@ use Rattle.git_pkt.specs.declared.progress.BandProgress.TheVariants.{Empty}
 use Rattle.git_pkt.proofs.Chunks.{left_of}
 use Rattle.git_pkt.proofs.BandCarries.{bands_stay}
 use Rattle.git_pkt.proofs.BandSteps.{bands_after}
-use Rattle.git_pkt.proofs.reader.PacketReader.band_steps.Goals as goal
+use Rattle.git_pkt.proofs.reader.PacketReader.steps_between.Goals as goal
 
 pub loop-used-init : goal.loop-used-init
 loop-used-init c = record {
