@@ -17,12 +17,22 @@ pub(crate) struct NameCopy<A: Allocator + Copy> {
 }
 
 /// The name of the reference that was reported last, if one was.
-#[derive(Drop)]
 pub(crate) enum LastName<A: Allocator + Copy> {
     Nothing,
     // That of this reference.
     Entry(RefEntry),
     Copied(NameCopy<A>),
+}
+
+// By a call: a derived drop is written out, and proved, wherever a value goes out of scope.
+impl<A: Allocator + Copy> Drop for LastName<A> {
+    fn drop(self) {
+        match self {
+            LastName::Nothing => {}
+            LastName::Entry(_entry) => {}
+            LastName::Copied(_name) => {}
+        }
+    }
 }
 
 impl<A: Allocator + Copy> LastName<A> {

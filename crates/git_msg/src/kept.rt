@@ -20,11 +20,21 @@ use std::alloc::Allocator;
 use std::marker::Model;
 
 /// What is kept of a request of any command: its arguments, each at most as often as they count.
-#[derive(Drop)]
 pub struct KeptArguments<A: Allocator + Copy> {
     format: Format,
     budget: Budget,
     lists: ArgumentLists<A>,
+}
+
+// By a call: a derived drop is written out, and proved, wherever a value goes out of scope.
+impl<A: Allocator + Copy> Drop for KeptArguments<A> {
+    fn drop(self) {
+        let KeptArguments {
+            format: _format,
+            budget: _budget,
+            lists: _lists,
+        } = self;
+    }
 }
 
 impl<A: Allocator + Copy> Model for KeptArguments<A> {

@@ -53,7 +53,6 @@ impl fmt::Display for RepoFault {
 impl Error for RepoFault {}
 
 /// The lists of a repository, before they are checked.
-#[derive(Drop)]
 pub struct RepoLists {
     /// The format of the object names.
     pub format: Format,
@@ -71,6 +70,22 @@ pub struct RepoLists {
     pub unborn_head: Option<Vec<u8>>,
     /// The pack for each request that has a filter, if that is a different one.
     pub filtered: Option<Pack>,
+}
+
+// By a call: a derived drop is written out, and proved, wherever a value goes out of scope.
+impl Drop for RepoLists {
+    fn drop(self) {
+        let RepoLists {
+            format: _format,
+            refs: _refs,
+            objects: _objects,
+            ready_after: _ready_after,
+            boundaries: _boundaries,
+            pack: _pack,
+            unborn_head: _unborn_head,
+            filtered: _filtered,
+        } = self;
+    }
 }
 
 /// A repository that consists of a few lists in memory.
