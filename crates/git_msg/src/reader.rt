@@ -45,7 +45,6 @@ enum Part {
 }
 
 /// Reads requests from their packets, as in gitprotocol-v2(5), against what was advertised.
-#[derive(Drop)]
 pub struct RequestReader<A: Allocator + Copy> {
     alloc: A,
     offer: Offer,
@@ -57,6 +56,21 @@ pub struct RequestReader<A: Allocator + Copy> {
     // The request as it is kept so far, with its limit.
     request: Request<A>,
     ghost bounded: { IsBounded offer request },
+}
+
+// By a call: a derived drop is written out, and proved, wherever a value goes out of scope.
+impl<A: Allocator + Copy> Drop for RequestReader<A> {
+    fn drop(self) {
+        let RequestReader {
+            alloc: _alloc,
+            offer: _offer,
+            part: _part,
+            begun: _begun,
+            command: _command,
+            has_format: _has_format,
+            request: _request,
+        } = self;
+    }
 }
 
 impl<A: Allocator + Copy> RequestReader<A> {
