@@ -41,6 +41,19 @@ progress_is : (bytes : List ℕ) → progress_bytes (map progress bytes) ≡ byt
 progress_is [] = refl
 progress_is (byte ∷ bytes) = ap (λ (l : List ℕ). byte ∷ l) (progress_is bytes)
 
+-- other events have none
+pub others_unsent : (e : Event) → ((bytes : Bor (List ℕ)) → e ≡ Pack bytes → ⊥) → ((bytes : Bor (List ℕ)) → e ≡ Progress bytes → ⊥)
+    → pack_bytes (values_of e) ≡ []
+others_unsent (Pack bytes) no_pack no_progress = absurd (no_pack bytes refl)
+others_unsent (Progress bytes) no_pack no_progress = absurd (no_progress bytes refl)
+others_unsent e no_pack no_progress = refl
+
+pub others_unreported : (e : Event) → ((bytes : Bor (List ℕ)) → e ≡ Pack bytes → ⊥) → ((bytes : Bor (List ℕ)) → e ≡ Progress bytes → ⊥)
+    → progress_bytes (values_of e) ≡ []
+others_unreported (Pack bytes) no_pack no_progress = absurd (no_pack bytes refl)
+others_unreported (Progress bytes) no_pack no_progress = absurd (no_progress bytes refl)
+others_unreported e no_pack no_progress = refl
+
 module _ (e : Event) (bytes : Bor (List ℕ)) where
   pub pack_lines : e ≡ Pack bytes → (p q : ℕ) → lines_of (values_of e) p q ≡ []
   pack_lines is p q = ap (λ (x : Event). lines_of (values_of x) p q) is ∙ no_lines_of_pack bytes.now p q

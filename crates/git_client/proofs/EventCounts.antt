@@ -33,7 +33,7 @@ line_gives : (place : Place) (format : Format) (text : List ℕ) (events : List 
 line_gives version format text events h = of_one _ events h.1 (omega arith)
 line_gives (capabilities spoken) format text events h = of_one _ events h.3 (omega arith)
 line_gives references format text events h = of_one _ events h.2 (omega arith)
-line_gives (header allowed) format text events h = of_one _ events h.1 (omega arith)
+line_gives (header allowed) format text events h = of_one _ events h.3 (omega arith)
 line_gives (acknowledgments announced) format text events (inl h) = of_one _ events h.2 (omega arith)
 line_gives (acknowledgments announced) format text events (inr (inl h)) = of_one _ events h.2 (omega arith)
 line_gives (acknowledgments announced) format text events (inr (inr h)) = of_one _ events h.3 (omega arith)

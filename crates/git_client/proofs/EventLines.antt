@@ -42,6 +42,7 @@ row_line (Event.Reference None name target peeled) packed announced =
 row_line (Event.Reference (Some id) name target peeled) packed announced =
     one_line (codes "ref ") (hex_of id.now ∷ codes " " ∷ escaped_of name.now ∷ target_shown (option_copied target)
     ∷ peeled_text (option_copied peeled) ∷ codes "\n" ∷ [] ∷ [])
+row_line (Event.Section begun) packed announced = refl
 row_line (Event.Ack id) packed announced = one_line (codes "ack ") (hex_of id.now ∷ codes "\n" ∷ [] ∷ [])
 row_line Event.Nak packed announced = refl
 row_line Event.Ready packed announced = refl

@@ -24,8 +24,9 @@ use Rattle.git_msg.proofs.ReferenceWords.{value_spelled}
 use Rattle.git_client.specs.Places.{Place, version, capabilities, references, header, acknowledgments, shallow_info, wanted_refs, packfile}
 use Rattle.git_client.specs.Places.{size_line, sizes, response_end}
 use Rattle.git_client.specs.Events.{EventValue, capability, reference, ack, nak, ready, shallow, unshallow, wanted_ref, pack, progress, info}
-use Rattle.git_client.specs.Events.{ended, offered, Gives, events_of_band, events_of_delimiter, ended_by, events_of_flush, events_of_response_end}
+use Rattle.git_client.specs.Events.{section, ended, offered, Gives, events_of_band, events_of_delimiter, ended_by, events_of_flush, events_of_response_end}
 use Rattle.git_client.specs.Events.{parts_length, all_parts_length}
+use Rattle.git_client.proofs.SectionSteps.{header_named}
 use Rattle.git_client.specs.Opened.{events_on}
 use Rattle.git_client.specs.Packs.{on_first_band}
 use Rattle.git_client.specs.declared.events.Ending.{Ending}
@@ -193,7 +194,8 @@ read_fits version format text events (is, e) within = rw e (omega arith)
 read_fits (capabilities spoken) format text events (key, value, is, e) within =
     rw e (alone (capability key value) (omega (arith, capability_fits text key value is)))
 read_fits references format text events (ref, is, e) within = rw e (alone (reference ref) (omega (arith, reference_fits format text ref is)))
-read_fits (header allowed) format text events (is, e) within = rw e (omega arith)
+read_fits (header allowed) format text events (begun, is, may, e) within =
+    rw e (alone (section begun) (omega (arith, within, ap length (header_named text begun is))))
 read_fits (acknowledgments announced) format text events (inl h) within = rw h.2 (alone nak (omega arith))
 read_fits (acknowledgments announced) format text events (inr (inl h)) within = rw h.2 (alone ready (omega arith))
 read_fits (acknowledgments announced) format text events (inr (inr h)) within = rw h.3 (object_fits (ack h.0) h.0 refl)

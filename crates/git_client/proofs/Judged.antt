@@ -9,7 +9,7 @@ use Rattle.git_msg.specs.Asked.{Asked}
 use Rattle.git_msg.specs.declared.offers.Caps.{Caps}
 use Rattle.git_client.specs.Parts.{Terms, terms_of, Part, sections, closing, advertisement_of, message_of, is_end_expected, is_zero, part_after}
 use Rattle.git_client.specs.Places.{version, capabilities, header, acknowledgments, size_line, sizes, place_in, place_of, place_after}
-use Rattle.git_client.specs.Events.{EventValue, Gives, Refuses, MeansEvents}
+use Rattle.git_client.specs.Events.{EventValue, section, Gives, Refuses, MeansEvents}
 use Rattle.git_client.specs.Conversation.{GivesAt, RefusesAt}
 use Rattle.git_client.specs.Sections.{section_named, lines_of, may_begin, acks_in, acks_with}
 use Rattle.git_client.specs.Machine.Turns.{NotesAfter, IsTurn, events_at, place_expected, expected_after_line, expected_after_delimiter}
@@ -29,9 +29,9 @@ use Rattle.git_client.proofs.PartSteps.{is_early, next_part, part_expected, awai
 use Rattle.git_client.proofs.Sequences.{advertisement_more}
 use Rattle.git_client.proofs.SectionSteps.{inside_more, allowed_stays, header_expected}
 
-place_inside : (format : Format) (done : Bool) (message : List Pkt) (section : Section) → IsInside section message
-    → place_of format (Some (sections done)) message ≡ place_in (Some section) (lines_of message)
-place_inside format done message section inside = rw (inside.inside, inside.begun) refl
+place_inside : (format : Format) (done : Bool) (message : List Pkt) (begun : Section) → IsInside begun message
+    → place_of format (Some (sections done)) message ≡ place_in (Some begun) (lines_of message)
+place_inside format done message begun inside = rw (inside.inside, inside.begun) refl
 
 place_where : (format : Format) (done : Bool) (message : List Pkt) (expected : Expected) (caps : Caps)
     → (is_early (part_expected done expected) ≡ true → caps ≡ noted_of message) → IsExpectedIn (part_expected done expected) message expected
@@ -62,8 +62,8 @@ place_is t asked before expected caps is notes =
 -- a line in the place of a header names a section that may begin
 header_may_begin : (allowed : Allowed) (format : Format) (text : List ℕ) (events : List EventValue) → MeansEvents (header allowed) format text events
     → may_begin allowed (section_named text) ≡ true
-header_may_begin allowed format text [] conveys = conveys
-header_may_begin allowed format text (event ∷ events) conveys = absurd conveys
+header_may_begin allowed format text (section begun ∷ []) conveys = ap (may_begin allowed) conveys.0 ∙ conveys.1
+header_may_begin allowed format text events conveys = absurd conveys
 
 line_expected : (format : Format) (ending : Ending) (caps : Caps) (done : Bool) (message : List Pkt) (expected : Expected) (line : List ℕ)
     (events : List EventValue)

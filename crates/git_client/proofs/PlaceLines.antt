@@ -1,6 +1,6 @@
 -- What a text line at a place gives, derived from the place.
 use Rattle.std.proofs.Common.{arith, ◌≡◌, ◌⊎◌, inl, inr, ℕ, Bool, true, false, ◌||◌, List, [], ◌∷◌, ◌++◌}
-use Rattle.std.proofs.Common.{Option, Ok, Err, refl, ap, sym, ◌∙◌, codes, cond, map, ◌==◌, slice_index}
+use Rattle.std.proofs.Common.{Option, Some, Ok, Err, refl, ap, sym, ◌∙◌, codes, cond, map, ◌==◌, slice_index}
 use Rattle.git_names.specs.ObjectName.{ObjectName}
 use Rattle.git_names.specs.declared.object_format.Format.{Format}
 use Rattle.git_pkt.specs.declared.fault.Kind.{Kind}
@@ -17,10 +17,11 @@ use Rattle.git_msg.proofs.ReferenceFaults.{reference_or_fault, one_reference_fau
 use Rattle.git_msg.proofs.ResponseLines.{one_ack, one_boundary, one_info, one_wanted}
 use Rattle.git_msg.proofs.ResponseFaults.{ack_or_fault, boundary_or_fault, info_or_fault, wanted_or_fault, one_boundary_fault, one_info_fault, one_wanted_fault}
 use Rattle.git_client.specs.declared.sections.Acks.{Acks}
-use Rattle.git_client.specs.Sections.{section_named, may_begin}
+use Rattle.git_client.specs.declared.sections.Section.{Section}
+use Rattle.git_client.specs.Sections.{allows, section_named, may_begin}
 use Rattle.git_client.specs.Places.{Place, version, capabilities, references, header, acknowledgments, shallow_info, wanted_refs, packfile}
 use Rattle.git_client.specs.Places.{size_line, sizes, response_end}
-use Rattle.git_client.specs.Events.{EventValue, capability, reference, ack, nak, ready, shallow, unshallow, wanted_ref, pack, progress, info}
+use Rattle.git_client.specs.Events.{EventValue, capability, reference, section, ack, nak, ready, shallow, unshallow, wanted_ref, pack, progress, info}
 use Rattle.git_client.specs.Packs.{on_first_band}
 use Rattle.git_client.specs.Events.{MeansEvents, IsLineFault, IsNotExpected, IsBadAck, events_of_band, turns_of, pack_bytes}
 
@@ -41,7 +42,8 @@ ReadsLine version format text events = (text ≡ codes "version 2") × (events �
 ReadsLine (capabilities spoken) format text events =
     (key : List ℕ) × (value : Option (List ℕ)) × IsCapability text key value × (events ≡ capability key value ∷ [])
 ReadsLine references format text events = (ref : Ref) × IsReferenceLine format text ref × (events ≡ reference ref ∷ [])
-ReadsLine (header allowed) format text events = (may_begin allowed (section_named text) ≡ true) × (events ≡ [])
+ReadsLine (header allowed) format text events =
+    (begun : Section) × (section_named text ≡ Some begun) × (allows allowed begun ≡ true) × (events ≡ section begun ∷ [])
 ReadsLine (acknowledgments announced) format text events = IsAcknowledging format announced text events
 ReadsLine shallow_info format text events = (line : Boundary) × IsBoundaryLine format text line × (events ≡ boundary_event line ∷ [])
 ReadsLine wanted_refs format text events = (wanted : Wanted) × IsWantedLine format text wanted × (events ≡ wanted_ref wanted ∷ [])
@@ -54,7 +56,7 @@ pub line_read : (place : Place) (format : Format) (text : List ℕ) (events : Li
 line_read version format text [] conveys = (conveys, refl)
 line_read (capabilities spoken) format text (capability key value ∷ []) conveys = (key, value, conveys, refl)
 line_read references format text (reference ref ∷ []) conveys = (ref, conveys, refl)
-line_read (header allowed) format text [] conveys = (conveys, refl)
+line_read (header allowed) format text (section begun ∷ []) conveys = (begun, conveys.0, conveys.1, refl)
 line_read (acknowledgments announced) format text (nak ∷ []) conveys = inl (conveys.0, conveys.1, refl)
 line_read (acknowledgments announced) format text (ready ∷ []) conveys = inr (inl (conveys.0, conveys.1, refl))
 line_read (acknowledgments announced) format text (ack id ∷ []) conveys = inr (inr (id, conveys.0, conveys.1, refl))
@@ -102,7 +104,8 @@ one_reading (capabilities spoken) format text events others h k =
     ∙ sym k.3
 one_reading references format text events others h k =
     h.2 ∙ ap (λ (ref : Ref). reference ref ∷ []) (one_reference format text h.0 k.0 h.1 k.1) ∙ sym k.2
-one_reading (header allowed) format text events others h k = h.1 ∙ sym k.1
+one_reading (header allowed) format text events others h k =
+    let same : h.0 ≡ k.0 = let named = sym h.1 ∙ k.1 in cc in h.3 ∙ ap (λ (begun : Section). section begun ∷ []) same ∙ sym k.3
 one_reading (acknowledgments announced) format text events others h k = one_acknowledging format announced text events others h k
 one_reading shallow_info format text events others h k =
     h.2 ∙ ap (λ (line : Boundary). boundary_event line ∷ []) (one_boundary format text h.0 k.0 h.1 k.1) ∙ sym k.2
@@ -137,7 +140,7 @@ read_or_refused : (place : Place) (format : Format) (text : List ℕ) (events : 
 read_or_refused version format text events kind h bad = bad.0 h.0
 read_or_refused (capabilities spoken) format text events kind h bad = bad.0 h.0 h.1 h.2
 read_or_refused references format text events kind h bad = reference_or_fault format text h.0 kind h.1 bad
-read_or_refused (header allowed) format text events kind h bad = let may = h.0 in let never = bad.0 in cc
+read_or_refused (header allowed) format text events kind h bad = let may = ap (may_begin allowed) h.1 ∙ h.2 in let never = bad.0 in cc
 read_or_refused (acknowledgments announced) format text events kind h (inl bad) = expected_or_not format announced text events h bad.0
 read_or_refused (acknowledgments announced) format text events kind h (inr bad) = named_or_not format announced text events h bad.0
 read_or_refused shallow_info format text events kind h bad = boundary_or_fault format text h.0 kind h.1 bad
@@ -189,7 +192,7 @@ of_read : (place : Place) (format : Format) (text : List ℕ) (events : List Eve
 of_read version format text events (is, e) = of_line [] events e refl refl
 of_read (capabilities spoken) format text events (key, value, is, e) = of_line (capability key value ∷ []) events e refl refl
 of_read references format text events (ref, is, e) = of_line (reference ref ∷ []) events e refl refl
-of_read (header allowed) format text events (is, e) = of_line [] events e refl refl
+of_read (header allowed) format text events (begun, is, may, e) = of_line (section begun ∷ []) events e refl refl
 of_read (acknowledgments announced) format text events (inl h) = of_line (nak ∷ []) events h.2 refl refl
 of_read (acknowledgments announced) format text events (inr (inl h)) = of_line (ready ∷ []) events h.2 refl refl
 of_read (acknowledgments announced) format text events (inr (inr h)) = of_line (ack h.0 ∷ []) events h.3 refl refl

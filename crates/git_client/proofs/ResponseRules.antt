@@ -24,8 +24,8 @@ use Rattle.git_client.specs.declared.phase.Phase.{Phase}
 use Rattle.git_client.specs.declared.phase.Phase.TheVariants.{Receiving, Ready, Asking, Leaving, Left, Failed}
 use Rattle.git_client.specs.Parts.{Terms, advertisement_of, nearest}
 use Rattle.git_client.specs.Places.{Place, acknowledgments, header, references, shallow_info, sizes, wanted_refs}
-use Rattle.git_client.specs.Sections.{acks_with, allowed_after, allows, header_of, may_begin, section_named}
-use Rattle.git_client.specs.Events.{EventValue, Gives, MeansEvents, ack, events_of_delimiter, ended, ended_by, events_of_flush, nak, ready}
+use Rattle.git_client.specs.Sections.{acks_with, allowed_after, allows, header_of, section_named}
+use Rattle.git_client.specs.Events.{EventValue, Gives, MeansEvents, ack, events_of_delimiter, ended, ended_by, events_of_flush, nak, ready, section}
 use Rattle.git_client.specs.Conversation.{GiveAll, GivesAt}
 use Rattle.git_client.specs.Responses.{AfterAcks, AcknowledgmentsSection, Either, FetchResponse, First, IsAck, IsBand, IsDelimiter, IsEnd, IsHeader, IsNak}
 use Rattle.git_client.specs.Responses.{IsResponse, IsText, LsRefsResponse, Many, ObjectInfoResponse, PackPart, PackfileSection, Rule}
@@ -267,34 +267,34 @@ module _ (format : Format) (ending : Ending) (caps : Caps) where
   SectionRule WantedRefsHeader rule = WantedRefsSection format ending rule
   SectionRule PackfileHeader rule = PackfileSection format ending
 
-  section_is : (section : Section) → section_named (header_of section) ≡ Some section
+  section_is : (begun : Section) → section_named (header_of begun) ≡ Some begun
   section_is AcknowledgmentsHeader = refl
   section_is ShallowInfoHeader = refl
   section_is WantedRefsHeader = refl
   section_is PackfileHeader = refl
 
-  conveys_header : (allowed : Allowed) (text : List ℕ) (now : List EventValue) → now ≡ [] → may_begin allowed (section_named text) ≡ true
-      → MeansEvents (header allowed) format text now
-  conveys_header allowed text now none may = rw none may
+  conveys_header : (allowed : Allowed) (text : List ℕ) (begun : Section) (now : List EventValue) → now ≡ section begun ∷ []
+      → section_named text ≡ Some begun → allows allowed begun ≡ true → MeansEvents (header allowed) format text now
+  conveys_header allowed text begun now is named may = rw is (named, may)
 
   -- a header that may come, and its section
-  begins_to : (allowed : Allowed) (section : Section) (rule : Rule) → allows allowed section ≡ true
-      → ((ps : List Pkt) (es : List EventValue) → rule ps es → RuleOf format ending (expected_in allowed section) ps es)
-      → (p : Pkt) (ps : List Pkt) (es : List EventValue) → First (IsHeader section) rule (p ∷ ps) es → Steps format ending caps (Header allowed) p ps es
-  begins_to allowed section rule may on (payload line) ps es (now, later, e, (no_error, (is, none)), rest) =
-      let named : section_named (text_of line) ≡ Some section = ap section_named is ∙ section_is section in (
+  begins_to : (allowed : Allowed) (begun : Section) (rule : Rule) → allows allowed begun ≡ true
+      → ((ps : List Pkt) (es : List EventValue) → rule ps es → RuleOf format ending (expected_in allowed begun) ps es)
+      → (p : Pkt) (ps : List Pkt) (es : List EventValue) → First (IsHeader begun) rule (p ∷ ps) es → Steps format ending caps (Header allowed) p ps es
+  begins_to allowed begun rule may on (payload line) ps es (now, later, e, (no_error, (is, content)), rest) =
+      let named : section_named (text_of line) ≡ Some begun = ap section_named is ∙ section_is begun in (
         now,
         later,
         e,
         record {
           no_error = no_error;
-          conveys = conveys_header allowed (text_of line) now none (ap (may_begin allowed) named ∙ may);
+          conveys = conveys_header allowed (text_of line) begun now content named may;
         },
         subst (λ (o : Option Section). RuleOf format ending (expected_after_header allowed o) ps later) (sym named) (on ps later rest),
       )
-  begins_to allowed section rule may on flush ps es x = absurd x.3
-  begins_to allowed section rule may on delim ps es x = absurd x.3
-  begins_to allowed section rule may on resp_end ps es x = absurd x.3
+  begins_to allowed begun rule may on flush ps es x = absurd x.3
+  begins_to allowed begun rule may on delim ps es x = absurd x.3
+  begins_to allowed begun rule may on resp_end ps es x = absurd x.3
 
   -- the sections before a pack, in both directions
   pack_out : (shallow wanted : Bool) (ps : List Pkt) (es : List EventValue) → PackPart format ending shallow wanted ps es
@@ -362,35 +362,40 @@ module _ (format : Format) (ending : Ending) (caps : Caps) where
   pack_first true shallow wanted ps es h = inr h
   pack_first false shallow wanted ps es h = h
 
-  header_text : (allowed : Allowed) (text : List ℕ) (now : List EventValue) → MeansEvents (header allowed) format text now
-      → (now ≡ []) × (may_begin allowed (section_named text) ≡ true)
-  header_text allowed text [] conveys = (refl, conveys)
-  header_text allowed text (event ∷ events) conveys = absurd conveys
+  -- the event of a header
+  abbrev HeaderConveys : Allowed → List ℕ → List EventValue → Type 0
+  HeaderConveys allowed text now =
+      (begun : Section) × (now ≡ section begun ∷ []) × (section_named text ≡ Some begun) × (allows allowed begun ≡ true)
 
-  section_from : (allowed : Allowed) (line : List ℕ) (ps : List Pkt) (es now later : List EventValue) (named : Option Section) → es ≡ now ++ later
-      → ¬ IsErrorText (text_of line) → now ≡ [] → section_named (text_of line) ≡ named → may_begin allowed named ≡ true
-      → RuleOf format ending (expected_after_header allowed named) ps later → HeaderRule format ending allowed (payload line ∷ ps) es
-  section_from allowed line ps es now later None e no_error none named may rest = absurd (cc)
-  section_from allowed line ps es now later (Some AcknowledgmentsHeader) e no_error none named may rest =
+  header_conveys : (allowed : Allowed) (text : List ℕ) (now : List EventValue) → MeansEvents (header allowed) format text now
+      → HeaderConveys allowed text now
+  header_conveys allowed text (section begun ∷ []) conveys = (begun, refl, conveys.0, conveys.1)
+  header_conveys allowed text now conveys = absurd conveys
+
+  section_from : (allowed : Allowed) (line : List ℕ) (ps : List Pkt) (es now later : List EventValue) (begun : Section) → es ≡ now ++ later
+      → ¬ IsErrorText (text_of line) → now ≡ section begun ∷ [] → section_named (text_of line) ≡ Some begun → allows allowed begun ≡ true
+      → RuleOf format ending (expected_in allowed begun) ps later → HeaderRule format ending allowed (payload line ∷ ps) es
+  section_from allowed line ps es now later AcknowledgmentsHeader e no_error content named may rest =
       acks_first allowed.acknowledgments allowed.shallow_info allowed.wanted_refs (payload line ∷ ps) es may
-      (now, later, e, (no_error, (header_named (text_of line) AcknowledgmentsHeader named, none)), rest)
-  section_from allowed line ps es now later (Some ShallowInfoHeader) e no_error none named may rest =
+      (now, later, e, (no_error, (header_named (text_of line) AcknowledgmentsHeader named, content)), rest)
+  section_from allowed line ps es now later ShallowInfoHeader e no_error content named may rest =
       pack_first allowed.acknowledgments allowed.shallow_info allowed.wanted_refs (payload line ∷ ps) es
       (shallow_in allowed.shallow_info allowed.wanted_refs (payload line ∷ ps) es may
-      (now, later, e, (no_error, (header_named (text_of line) ShallowInfoHeader named, none)), rest))
-  section_from allowed line ps es now later (Some WantedRefsHeader) e no_error none named may rest =
+      (now, later, e, (no_error, (header_named (text_of line) ShallowInfoHeader named, content)), rest))
+  section_from allowed line ps es now later WantedRefsHeader e no_error content named may rest =
       pack_first allowed.acknowledgments allowed.shallow_info allowed.wanted_refs (payload line ∷ ps) es
       (wanted_in allowed.shallow_info allowed.wanted_refs (payload line ∷ ps) es may
-      (now, later, e, (no_error, (header_named (text_of line) WantedRefsHeader named, none)), rest))
-  section_from allowed line ps es now later (Some PackfileHeader) e no_error none named may rest =
+      (now, later, e, (no_error, (header_named (text_of line) WantedRefsHeader named, content)), rest))
+  section_from allowed line ps es now later PackfileHeader e no_error content named may rest =
       pack_first allowed.acknowledgments allowed.shallow_info allowed.wanted_refs (payload line ∷ ps) es
       (packfile_in allowed.shallow_info allowed.wanted_refs (payload line ∷ ps) es
-      (now, later, e, (no_error, (header_named (text_of line) PackfileHeader named, none)), rest))
+      (now, later, e, (no_error, (header_named (text_of line) PackfileHeader named, content)), rest))
 
   header_from : (allowed : Allowed) → From (Header allowed)
   header_from allowed (payload line) ps es (now, later, e, gives, rest) =
-      let (none, may) = header_text allowed (text_of line) now gives.conveys in
-      section_from allowed line ps es now later (section_named (text_of line)) e gives.no_error none refl may rest
+      let (begun, content, named, may) = header_conveys allowed (text_of line) now gives.conveys in
+      section_from allowed line ps es now later begun e gives.no_error content named may
+      (subst (λ (o : Option Section). RuleOf format ending (expected_after_header allowed o) ps later) named rest)
   header_from allowed p ps es x = let gives = x.3 in absurd (cc)
 
   -- ---- acknowledgments

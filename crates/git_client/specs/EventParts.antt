@@ -5,12 +5,14 @@ use Rattle.git_names.specs.ObjectName.{ObjectName}
 use Rattle.git_client.specs.declared.event_parts.EventKind.{EventKind}
 use Rattle.git_client.specs.declared.event_parts.EventParts.{EventParts}
 use Rattle.git_client.specs.declared.events.Event.{Event}
+use Rattle.git_client.specs.Sections.{header_of}
 
--- the word that begins the line of such an event; bytes of the pack and of the progress have no line
+-- the word that begins the line of such an event; a section, and bytes of the pack and of the progress, have no line
 abbrev pub word_of : EventKind → Option (List ℕ)
 word_of EventKind.Capability = Some (codes "capability")
 word_of EventKind.Offered = Some (codes "offered")
 word_of EventKind.Reference = Some (codes "ref")
+word_of EventKind.Section = None
 word_of EventKind.Ack = Some (codes "ack")
 word_of EventKind.Nak = Some (codes "nak")
 word_of EventKind.Ready = Some (codes "ready")
@@ -54,7 +56,8 @@ of_object kind id = record { kind = kind; id = Some id; name = None; text = None
 abbrev pub of_text : EventKind → List ℕ → Parts
 of_text kind text = record { kind = kind; id = None; name = None; text = Some text; peeled = None; size = None }
 
--- the parts of an event: a capability's key is the name and its value the text; a reference's target is the text
+-- the parts of an event: a capability's key is the name and its value the text; a reference's target is the text; the text of a section's header
+-- is the name
 abbrev pub parts_of : Event → Parts
 parts_of (Event.Capability c) = record {
   kind = EventKind.Capability;
@@ -73,6 +76,8 @@ parts_of (Event.Reference id name target peeled) = record {
   peeled = option_copied peeled;
   size = None;
 }
+parts_of (Event.Section section) =
+    record { kind = EventKind.Section; id = None; name = Some (header_of section); text = None; peeled = None; size = None }
 parts_of (Event.Ack id) = of_object EventKind.Ack id.now
 parts_of Event.Nak = bare EventKind.Nak
 parts_of Event.Ready = bare EventKind.Ready

@@ -1,5 +1,5 @@
 -- The events that a packet gives, and the errors that refuse it, by its place.
-use Rattle.std.specs.Prelude.{◌≡◌, ◌≢◌, ◌⊎◌, ℕ, suc, ◌+◌, ◌==◌, ◌||◌, true, false, List, [], ◌∷◌, ◌++◌, length, sum_by, Option, Result, Ok, Err, codes, map}
+use Rattle.std.specs.Prelude.{◌≡◌, ◌≢◌, ◌⊎◌, ℕ, suc, ◌+◌, ◌==◌, ◌||◌, true, false, List, [], ◌∷◌, ◌++◌, length, sum_by, Option, Some, Result, Ok, Err, codes, map}
 use Rattle.std.specs.Prelude.{if◌then◌else◌}
 use Rattle.std.specs.Option.{option_map_or}
 use Rattle.git_names.specs.ObjectFormat.{digits_of}
@@ -18,7 +18,8 @@ use Rattle.git_msg.specs.Texts.{Follows, IsErrorText}
 use Rattle.git_client.specs.declared.events.Ending.{Ending}
 use Rattle.git_client.specs.declared.events.Ending.TheVariants.{FlushOnly, ResponseEnd}
 use Rattle.git_client.specs.declared.sections.Acks.{Acks}
-use Rattle.git_client.specs.Sections.{section_named, may_begin}
+use Rattle.git_client.specs.declared.sections.Section.{Section}
+use Rattle.git_client.specs.Sections.{allows, header_of, section_named, may_begin}
 use Rattle.git_client.specs.Places.{Place, version, capabilities, references, header, acknowledgments, shallow_info, wanted_refs, packfile}
 use Rattle.git_client.specs.Places.{size_line, sizes, response_end}
 
@@ -27,6 +28,7 @@ pub data EventValue : Type 0 where
   capability : (key : List ℕ) (value : Option (List ℕ)) → EventValue
   offered : EventValue
   reference : Ref → EventValue
+  section : Section → EventValue
   ack : ObjectName → EventValue
   nak : EventValue
   ready : EventValue
@@ -43,7 +45,7 @@ abbrev pub MeansEvents : Place → Format → List ℕ → List EventValue → T
 MeansEvents version format text [] = text ≡ codes "version 2"
 MeansEvents (capabilities spoken) format text (capability key value ∷ []) = IsCapability text key value
 MeansEvents references format text (reference ref ∷ []) = IsReferenceLine format text ref
-MeansEvents (header allowed) format text [] = may_begin allowed (section_named text) ≡ true
+MeansEvents (header allowed) format text (section begun ∷ []) = (section_named text ≡ Some begun) × (allows allowed begun ≡ true)
 MeansEvents (acknowledgments acks) format text (nak ∷ []) = (text ≡ codes "NAK") × (acks.any ≡ false)
 MeansEvents (acknowledgments acks) format text (ready ∷ []) = (text ≡ codes "ready") × (acks.ready ≡ false)
 MeansEvents (acknowledgments acks) format text (ack id ∷ []) = IsAckLine format text id × ((acks.nak || acks.ready) ≡ false)
@@ -170,6 +172,7 @@ abbrev pub parts_length : EventValue → ℕ
 parts_length (capability key value) = length key + option_map_or length value 0
 parts_length (reference ref) =
     id_length ref.id + length ref.name + option_map_or length ref.target 0 + option_map_or (λ id. digits_of id.format) ref.peeled 0
+parts_length (section begun) = length (header_of begun)
 parts_length (ack id) = digits_of id.format
 parts_length (shallow id) = digits_of id.format
 parts_length (unshallow id) = digits_of id.format

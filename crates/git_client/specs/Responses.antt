@@ -15,7 +15,7 @@ use Rattle.git_client.specs.declared.sections.Section.{Section}
 use Rattle.git_client.specs.declared.sections.Section.TheVariants.{Acknowledgments, ShallowInfo, WantedRefs, Packfile}
 use Rattle.git_client.specs.Sections.{header_of}
 use Rattle.git_client.specs.Places.{references, shallow_info, wanted_refs, size_line, sizes}
-use Rattle.git_client.specs.Events.{EventValue, MeansEvents, ack, events_of_band, capability, ended, nak, offered, ready}
+use Rattle.git_client.specs.Events.{EventValue, MeansEvents, ack, events_of_band, capability, ended, nak, offered, ready, section}
 use Rattle.git_client.specs.Parts.{Terms}
 
 -- a rule states which packets there are, and which events they give
@@ -52,7 +52,7 @@ IsText HasContent p events = ⊥
 
 -- the header of a section
 abbrev pub IsHeader : Section → Pkt → List EventValue → Type 0
-IsHeader section = IsText (λ text events. (text ≡ header_of section) × (events ≡ []))
+IsHeader begun = IsText (λ text events. (text ≡ header_of begun) × (events ≡ section begun ∷ []))
 
 -- the delimiter after a section
 abbrev pub IsDelimiter : Pkt → List EventValue → Type 0

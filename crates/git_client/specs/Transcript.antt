@@ -1,4 +1,4 @@
--- The transcript of a conversation: a line for each event and for each request.
+-- The transcript of a conversation: a line for each event, except of a section and of bytes of the pack and of the progress, and for each request.
 use Rattle.std.specs.Prelude.{ℕ, suc, List, [], ◌∷◌, ◌++◌, drop, Option, Some, None, codes, decimal}
 use Rattle.git_names.specs.ObjectName.{hex_of}
 use Rattle.git_pkt.specs.Escape.{escaped_of}
@@ -6,7 +6,7 @@ use Rattle.git_msg.specs.Arguments.{name_of}
 use Rattle.git_msg.specs.Asked.{Asked, command_asked}
 use Rattle.git_msg.specs.declared.arguments.Command.{Command}
 use Rattle.git_msg.specs.References.{Ref, id_text, peeled_text}
-use Rattle.git_client.specs.Events.{EventValue, capability, offered, reference, ack, nak, ready, shallow, unshallow, wanted_ref, pack, progress, info, ended}
+use Rattle.git_client.specs.Events.{EventValue, capability, offered, reference, section, ack, nak, ready, shallow, unshallow, wanted_ref, pack, progress, info, ended}
 
 -- a text that may be absent, after a word that comes before it
 abbrev pub shown_after : List ℕ → Option (List ℕ) → List ℕ
@@ -35,6 +35,7 @@ abbrev pub line_of : EventValue → ℕ → ℕ → List ℕ
 line_of (capability key value) packed announced = codes "capability " ++ escaped_of key ++ value_shown value ++ codes "\n"
 line_of offered packed announced = codes "offered\n"
 line_of (reference ref) packed announced = reference_shown ref
+line_of (section begun) packed announced = []
 line_of (ack id) packed announced = codes "ack " ++ hex_of id ++ codes "\n"
 line_of nak packed announced = codes "nak\n"
 line_of ready packed announced = codes "ready\n"

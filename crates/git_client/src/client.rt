@@ -477,6 +477,7 @@ impl<A: Allocator + Copy> Client<A> {
             LineContent::Capability(places) => Event::Capability(capability(places, text(payload))),
             LineContent::Offered => Event::Offered,
             LineContent::Reference(places) => reference(places, text(payload)),
+            LineContent::Section(section) => Event::Section(*section),
             LineContent::Ack(id) => Event::Ack(id),
             LineContent::Nak => Event::Nak,
             LineContent::Ready => Event::Ready,

@@ -16,6 +16,8 @@ pub enum EventKind {
     Offered,
     /// A reference.
     Reference,
+    /// A section of the response to `fetch` begins.
+    Section,
     /// An object that both sides have.
     Ack,
     /// The server has none of the objects named so far.
@@ -39,7 +41,8 @@ pub enum EventKind {
 }
 
 impl EventKind {
-    /// The word that begins the transcript line of such an event. None for bytes of the pack and of the progress, which have no line.
+    /// The word that begins the transcript line of such an event. None for a section, and for bytes of the pack and of the progress, which have
+    /// no line.
     pub fn word(self) -> Option<&'static [u8]>
         ensures { option_copied result ≡ word_of self }
     {
@@ -47,6 +50,7 @@ impl EventKind {
             EventKind::Capability => Some(b"capability"),
             EventKind::Offered => Some(b"offered"),
             EventKind::Reference => Some(b"ref"),
+            EventKind::Section => None,
             EventKind::Ack => Some(b"ack"),
             EventKind::Nak => Some(b"nak"),
             EventKind::Ready => Some(b"ready"),
@@ -69,7 +73,7 @@ pub struct EventParts<'a> {
     pub kind: EventKind,
     /// The object of the event, or the object that the reference points to. None for a reference that is unborn.
     pub id: Option<&'a Oid>,
-    /// The name of the reference, or the key of the capability.
+    /// The name of the reference or of the section, or the key of the capability.
     pub name: Option<&'a [u8]>,
     /// The value of the capability, the target of a symbolic reference, or bytes of the pack or the progress.
     pub text: Option<&'a [u8]>,
@@ -103,6 +107,10 @@ impl<'a> Event<'a> {
                 text: target,
                 peeled,
                 ..EventParts::bare(EventKind::Reference)
+            },
+            Event::Section(section) => EventParts {
+                name: Some(section.name().as_bytes()),
+                ..EventParts::bare(EventKind::Section)
             },
             Event::Ack(id) => EventParts::of_object(EventKind::Ack, id),
             Event::Nak => EventParts::bare(EventKind::Nak),

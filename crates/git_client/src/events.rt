@@ -1,5 +1,6 @@
 //! What a client returns: events, and the next action.
 
+use crate::sections::Section;
 use git_msg::Capability;
 use git_names::Oid;
 use git_pkt::Fault;
@@ -31,6 +32,8 @@ pub enum Event<'a> {
         /// The object that an annotated tag peels to, if the server sent it.
         peeled: Option<&'a Oid>,
     },
+    /// A section of the response to `fetch` begins. It ends where the next one begins, or with `Ended`.
+    Section(Section),
     /// Both sides have this object: a line of `acknowledgments`, as all events up to `Ready` are.
     Ack(&'a Oid),
     /// The server has none of the objects that the request lists as the client's.

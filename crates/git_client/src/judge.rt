@@ -104,8 +104,7 @@ fn judge_line(
             Ok(Turn::Receiving(expected))
         }
         Expected::Header(allowed) => {
-            let next = judge_header(allowed, line)?;
-            *content = LineContent::Nothing;
+            let next = judge_header(allowed, line, content)?;
             Ok(Turn::Receiving(next))
         }
         Expected::Acknowledgments(announced) => {

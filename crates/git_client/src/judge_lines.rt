@@ -1,13 +1,13 @@
 //! The meaning of each text line of a conversation if it is expected, and the reasons to refuse it. The contents of a line are written to
 //! `content`. Error packets are judged before that.
 
-ghost use Rattle.std.specs.Prelude.{◌≡◌, ◌≢◌, Some, true, codes, MatchResult, OnErr, ◌+◌, ◌*◌, length};
+ghost use Rattle.std.specs.Prelude.{◌≡◌, ◌≢◌, Some, codes, MatchResult, OnErr, ◌+◌, ◌*◌, length};
 ghost use Rattle.git_names.specs.declared.object_format.Format.{Format};
 ghost use Rattle.git_names.specs.Steps.{TakesAtMost};
 ghost use Rattle.git_msg.specs.Capability.{IsNoCapability};
 ghost use Rattle.git_client.specs.Events.{IsLineFault};
 ghost use Rattle.git_client.specs.Places.{references, acknowledgments, header, shallow_info, sizes, wanted_refs};
-ghost use Rattle.git_client.specs.Sections.{acks_with, may_begin, section_named};
+ghost use Rattle.git_client.specs.Sections.{acks_with, section_named};
 ghost use Rattle.git_client.specs.Machine.Turns.{FindsCapability, HasContent, expected_after_header};
 
 use crate::phase::{CapabilityPlaces, Expected, LineContent};
@@ -72,9 +72,13 @@ pub(crate) fn judge_reference(
 }
 
 /// The header of a section. Returns what is expected after it.
-pub(crate) fn judge_header(allowed: Allowed, line: &[u8]) -> Result<Expected, Kind>
+pub(crate) fn judge_header(
+    allowed: Allowed,
+    line: &[u8],
+    content: &mut LineContent,
+) -> Result<Expected, Kind>
     ensures { (format : Format) → MatchResult result
-        (λ expected. (may_begin allowed (section_named line.now) ≡ true) × (expected ≡ expected_after_header allowed (section_named line.now)))
+        (λ expected. HasContent (header allowed) format line.now content.new × (expected ≡ expected_after_header allowed (section_named line.now)))
         (IsLineFault (header allowed) format line.now) }
 {
     let Some(section) = read_header(line) else {
@@ -83,6 +87,7 @@ pub(crate) fn judge_header(allowed: Allowed, line: &[u8]) -> Result<Expected, Ki
     if !allowed.allows(section) {
         return Err(Kind::UnexpectedSection);
     }
+    *content = LineContent::Section(section);
     let next = allowed.after(section);
     Ok(match section {
         Section::Acknowledgments => Expected::Acknowledgments(Acks::NOTHING),

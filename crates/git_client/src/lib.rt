@@ -21,4 +21,5 @@ pub use crate::conversing::{ask_next, converse};
 pub use crate::event_parts::{EventKind, EventParts};
 pub use crate::events::{Ending, Event, Received, ReceivedGot, Sent};
 pub use crate::receiving::{Counts, Window, receive_chunk, receive_response};
+pub use crate::sections::Section;
 pub use crate::transcript::{write_asked, write_event};

@@ -3,7 +3,7 @@
 ghost use Rattle.std.specs.Prelude.{◌≡◌, false, None};
 ghost use Rattle.git_client.specs.Machine.Turns.{fault_in, is_asking, phase_in};
 
-use crate::sections::{Acks, Allowed};
+use crate::sections::{Acks, Allowed, Section};
 use git_msg::{Info, ReferencePlaces, RequestWriter};
 use git_names::Oid;
 use git_pkt::Fault;
@@ -57,6 +57,7 @@ pub(crate) enum LineContent {
     Capability(CapabilityPlaces),
     Offered,
     Reference(ReferencePlaces),
+    Section(Section),
     Ack(Oid),
     Nak,
     Ready,

@@ -1,17 +1,36 @@
 //! The sections of a response to `fetch`, gitprotocol-v2(5).
 
-ghost use Rattle.std.specs.Prelude.{◌≡◌, []};
-ghost use Rattle.git_client.specs.Sections.{allows, next_allowed, allowed_after, section_named};
+ghost use Rattle.std.specs.Prelude.{◌≡◌, [], Some};
+ghost use Rattle.git_client.specs.Sections.{allows, next_allowed, allowed_after, header_of, section_named};
 
 use git_msg::is_word;
 
 /// A section of a response to `fetch`.
 #[derive(Clone, Copy, Debug, PartialEq, Eq)]
-pub(crate) enum Section {
+pub enum Section {
+    /// Which objects of the request both sides have.
     Acknowledgments,
+    /// The boundary of a shallow history.
     ShallowInfo,
+    /// The references that were requested by their names.
     WantedRefs,
+    /// The pack, and the progress of the server beside it.
     Packfile,
+}
+
+impl Section {
+    /// The text of its header.
+    pub fn name(self) -> &'static str
+        ensures text { result.now ≡ header_of self }
+        ensures header { section_named result.now ≡ Some self }
+    {
+        match self {
+            Section::Acknowledgments => "acknowledgments",
+            Section::ShallowInfo => "shallow-info",
+            Section::WantedRefs => "wanted-refs",
+            Section::Packfile => "packfile",
+        }
+    }
 }
 
 /// Which sections may begin, besides the packfile, which always may.

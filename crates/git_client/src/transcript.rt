@@ -16,7 +16,7 @@ use git_names::Oid;
 use git_pkt::{Recorded, RunFault};
 use std::io::Write;
 
-/// Writes the transcript line of an event, and nothing else. Bytes of the pack or the progress have no line. The numbers count
+/// Writes the transcript line of an event, and nothing else. A section, and bytes of the pack or the progress, have no line. The numbers count
 /// the pack and progress bytes of the response: the line at the end of the response shows them.
 ///
 /// The error is `WriteFault` if writing fails; then a prefix of the line was written. A writer that had not

@@ -20,13 +20,14 @@ use Rattle.git_msg.specs.declared.offers.Caps.{Caps}
 use Rattle.git_client.specs.Sections.{section_named, next_allowed, acks_with, allowed_after}
 use Rattle.git_client.specs.Places.{Place, version, capabilities, references, header, acknowledgments, shallow_info, wanted_refs, packfile}
 use Rattle.git_client.specs.Places.{size_line, sizes, response_end}
-use Rattle.git_client.specs.Events.{EventValue, capability, offered, reference, ack, nak, ready, shallow, unshallow, wanted_ref, pack, progress, info, ended}
+use Rattle.git_client.specs.Events.{EventValue, capability, offered, reference, section, ack, nak, ready, shallow, unshallow, wanted_ref, pack, progress}
+use Rattle.git_client.specs.Events.{info, ended}
 use Rattle.git_client.specs.Events.{MeansEvents, Gives, Refuses, IsLineFault}
 use Rattle.git_client.specs.declared.events.Ending.{Ending}
 use Rattle.git_client.specs.declared.events.Ending.TheVariants.{FlushOnly, ResponseEnd as WithResponseEnd}
 use Rattle.git_client.specs.declared.events.Event.{Event}
 use Rattle.git_client.specs.declared.events.Event.TheVariants.{Capability as CapabilityEvent, Offered as OfferedEvent, Reference as ReferenceEvent}
-use Rattle.git_client.specs.declared.events.Event.TheVariants.{Ack as AckEvent, Nak as NakEvent, Ready as ReadyEvent}
+use Rattle.git_client.specs.declared.events.Event.TheVariants.{Section as SectionEvent, Ack as AckEvent, Nak as NakEvent, Ready as ReadyEvent}
 use Rattle.git_client.specs.declared.events.Event.TheVariants.{Shallow as ShallowEvent, Unshallow as UnshallowEvent, WantedRef as WantedRefEvent}
 use Rattle.git_client.specs.declared.events.Event.TheVariants.{Info as InfoEvent, Pack as PackEvent, Progress as ProgressEvent, Ended as EndedEvent}
 use Rattle.git_client.specs.declared.sections.Section.{Section}
@@ -41,6 +42,7 @@ use Rattle.git_client.specs.declared.phase.Expected.TheVariants.{Version, Capabi
 use Rattle.git_client.specs.declared.phase.Expected.TheVariants.{Packfile, SizeLine, Sizes, ResponseEnd}
 use Rattle.git_client.specs.declared.phase.LineContent.{LineContent}
 use Rattle.git_client.specs.declared.phase.LineContent.TheVariants.{Nothing, Capability as CapabilityContent, Offered, Reference, Ack, Nak, Ready}
+use Rattle.git_client.specs.declared.phase.LineContent.TheVariants.{Section as SectionContent}
 use Rattle.git_client.specs.declared.phase.LineContent.TheVariants.{Shallow, Unshallow, WantedRef, Info as InfoContent, Ended}
 use Rattle.git_client.specs.declared.phase.CapabilityPlaces.{CapabilityPlaces}
 use Rattle.git_client.specs.declared.phase.Turn.{Turn}
@@ -79,6 +81,7 @@ line_events Nothing text = []
 line_events (CapabilityContent places) text = capability (take places.key_length text) (value_at places text) ∷ []
 line_events Offered text = offered ∷ []
 line_events (Reference places) text = reference (reference_at places text) ∷ []
+line_events (SectionContent begun) text = section begun ∷ []
 line_events (Ack id) text = ack id ∷ []
 line_events Nak text = nak ∷ []
 line_events Ready text = ready ∷ []
@@ -128,7 +131,7 @@ expected_in allowed PackfileSection = Packfile
 
 abbrev pub expected_after_header : Allowed → Option Section → Expected
 expected_after_header allowed None = Header allowed
-expected_after_header allowed (Some section) = expected_in allowed section
+expected_after_header allowed (Some begun) = expected_in allowed begun
 
 -- what is expected after a text line
 abbrev pub expected_after_line : Expected → List ℕ → Expected
@@ -255,6 +258,7 @@ abbrev pub values_of : Event → List EventValue
 values_of (CapabilityEvent c) = capability_value c ∷ []
 values_of OfferedEvent = offered ∷ []
 values_of (ReferenceEvent id name target peeled) = reference (reference_of (option_copied id) name.now (option_copied target) (option_copied peeled)) ∷ []
+values_of (SectionEvent begun) = section begun ∷ []
 values_of (AckEvent id) = ack id.now ∷ []
 values_of NakEvent = nak ∷ []
 values_of ReadyEvent = ready ∷ []

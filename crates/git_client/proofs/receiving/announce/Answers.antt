@@ -1,4 +1,4 @@
-use Rattle.git_client.proofs.Announcing.{left_alone, pack_lines, pack_sent, pack_unreported, pack_counted}
+use Rattle.git_client.proofs.Announcing.{left_alone, others_unreported, others_unsent, pack_lines, pack_sent, pack_unreported, pack_counted}
 use Rattle.git_client.proofs.Announcing.{progress_lines, progress_unsent, progress_reported, progress_counted}
 use Rattle.git_client.proofs.WaitingLines.{put_by}
 use Rattle.git_client.proofs.receiving.announce.Goals as goal
@@ -32,3 +32,9 @@ returns-in-Progress-clause-counts g c can =
 
 pub returns-in_default-clause-announced : goal.returns-in_default-clause-announced
 returns-in_default-clause-announced g c = put_by c.put_event.result c.put_event.ensures
+
+pub returns-in_default-clause-sent : goal.returns-in_default-clause-sent
+returns-in_default-clause-sent g c = left_alone _ _ _ (others_unsent c.args.event.now c.in_default.not-Pack c.in_default.not-Progress)
+
+pub returns-in_default-clause-reported : goal.returns-in_default-clause-reported
+returns-in_default-clause-reported g c = left_alone _ _ _ (others_unreported c.args.event.now c.in_default.not-Pack c.in_default.not-Progress)
