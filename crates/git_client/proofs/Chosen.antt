@@ -17,7 +17,7 @@ use Rattle.git_client.specs.Conversation.{GivesAt, GiveAll}
 use Rattle.git_client.specs.Machine.Turns.{has_left_in, left_in, question_in}
 use Rattle.git_client.specs.Machine.Client.{History, Converses, StandsIn, Goes, IsExpected, awaits_end, sent_of, spelled}
 use Rattle.git_client.specs.Machine.Client.{format_of, ending_of, caps_of, left_to_send, phase_of, reader_of, request_of}
-use Rattle.git_client.specs.Machine.Choosing.{format_by, is_advertising}
+use Rattle.git_client.specs.Machine.Choosing.{ChoosesFormat, format_by, is_advertising, may_choose}
 use Rattle.git_client.specs.declared.client.Client.{Client}
 use Rattle.git_client.specs.declared.events.Ending.{Ending}
 use Rattle.git_client.specs.declared.phase.Phase.{Phase}
@@ -185,6 +185,21 @@ module _ {A : Type 0} (old new : Client A) where
         left = c.left ∙ ap has_left_in (sym keeps.phase);
         spoken = ap (λ (l : List Pkt). h.given ++ spelled l) unsent ∙ c.spoken ∙ ap spelled sent;
       }
+
+-- a client that has no format to choose keeps the one it has
+pub keeps_format : {A : Type 0} (client : Client A) → may_choose client ≡ false → ChoosesFormat client client
+keeps_format client never = record {
+  format = sym (ap (λ (b : Bool). cond b (format_by (caps_of client)) (format_of client)) never);
+  carries = λ t h c. subst (λ (format : Format). Converses (terms_of format t.ending) h client) (sym c.format_is) c;
+  stays = λ _. refl;
+  any = refl;
+  ending = refl;
+  reader = refl;
+  phase = refl;
+  caps = refl;
+  request = refl;
+  content = refl;
+}
 
 pub format_is_spoken : (caps : Caps) (format : Format) → is_spoken caps format ≡ true → is_spoken caps (format_by caps) ≡ true
 format_is_spoken caps format speaks = go (is_spoken caps Sha1) refl format speaks where

@@ -4,10 +4,12 @@ use Rattle.std.proofs.Common.{length-append}
 use Rattle.std.proofs.lemmas.List.{length-map, length-take-le}
 use Rattle.git_pkt.specs.Packets.{longest_payload}
 use Rattle.git_pkt.specs.Passed.{on}
+use Rattle.git_pkt.specs.Machine.BandReader.{IsPart}
 use Rattle.git_pkt.specs.Machine.PacketReader.{ShownByFeed}
 use Rattle.git_pkt.specs.declared.band.Band.{Band}
-use Rattle.git_pkt.specs.declared.band.Band.TheVariants.{Pack, Progress}
+use Rattle.git_pkt.specs.declared.band.Band.TheVariants.{Fatal, Pack, Progress}
 use Rattle.git_pkt.specs.declared.fault.Fault.{Fault}
+use Rattle.git_pkt.specs.declared.reader.PacketReader.{PacketReader}
 use Rattle.git_pkt.proofs.BandFeeds.{last_of_used}
 use Rattle.git_client.specs.Events.{EventValue, pack, progress, all_parts_length}
 use Rattle.git_client.specs.Opened.{events_on}
@@ -16,6 +18,7 @@ use Rattle.git_client.specs.Machine.HandedOut.{HandsOut, HasPart, Shows}
 use Rattle.git_client.specs.Machine.Client.{EndsAt, Feeds, ReceivesOn, IsPassed, LeavesAfter, Takes, events_of, phase_of, wants_input}
 use Rattle.git_client.specs.declared.events.Event.{Event}
 use Rattle.git_client.specs.declared.events.Event.TheVariants.{Pack as PackEvent, Progress as ProgressEvent}
+use Rattle.git_client.specs.declared.events.Received.{Received}
 use Rattle.git_client.specs.declared.events.ReceivedGot.{ReceivedGot}
 use Rattle.git_client.specs.declared.events.ReceivedGot.TheVariants.{More as MoreGot, Event as EventGot, Failed as FailedGot}
 use Rattle.git_client.specs.declared.phase.Phase.{Phase}
@@ -24,6 +27,7 @@ use Rattle.git_client.specs.declared.client.Client.{Client}
 use Rattle.git_client.specs.declared.client.Outcome.{Outcome}
 use Rattle.git_client.specs.declared.client.Outcome.TheVariants.{More, Event as EventNow, Passed as PassedNow, Failed as FailedNow}
 use Rattle.git_client.specs.declared.client.Passed.{Passed}
+use Rattle.git_client.proofs.EventSizes.{parts_on}
 use Rattle.git_client.proofs.Opened.{on_pack, on_progress}
 
 pub has_no_fault : (phase : Phase) → takes_packets phase ≡ true → (f : Fault) → fault_in phase ≡ Some f → ⊥
@@ -32,6 +36,27 @@ has_no_fault _ takes f is = absurd (cc)
 
 no_length : {X : Type 0} (l : List X) → 0 < length l → l ≢ []
 no_length l some none = absurd (omega (arith, some, ap length none))
+
+-- a part of a packet, as a step has it
+pub is_part : (band : Band) (bytes : List ℕ) (chunk : List ℕ) (used count : ℕ) (reader : PacketReader) → band ≢ Fatal → IsPart bytes used chunk reader
+    → length bytes ≡ count → used ≤ length chunk → HasPart (PassedNow (record { band = band; count = count })) used
+is_part band bytes chunk used count reader other part long within =
+    (omega (arith, long, length-take-le used chunk within, ap length part.lies, length-append part.front bytes), other)
+
+shown_values : (band : Band) (bytes shown : List ℕ) (event : Event) → shown ≡ bytes → Shows band shown event
+    → values_of event ≡ events_on (map (on band) bytes)
+shown_values Pack bytes shown (PackEvent lent) same is = ap (map pack) (is ∙ same) ∙ sym (on_pack bytes)
+shown_values Progress bytes shown (ProgressEvent lent) same is = ap (map progress) (is ∙ same) ∙ sym (on_progress bytes)
+shown_values band bytes shown event same is = absurd is
+
+-- its event has no more bytes than a payload
+pub part_fits : (band : Band) (bytes : List ℕ) (chunk : List ℕ) (used count : ℕ) (reader : PacketReader) (got : ReceivedGot)
+    → IsPart bytes used chunk reader → length bytes ≡ count → used ≤ length chunk
+    → HandsOut (PassedNow (record { band = band; count = count })) used chunk got → all_parts_length (events_of got) ≤ longest_payload
+part_fits band bytes chunk used count reader (EventGot event) part long within hands =
+    let same = last_of_used chunk part.front bytes used count part.lies long within in
+    omega (arith, parts_on band bytes, part.fits, ap all_parts_length (shown_values band bytes _ event same hands))
+part_fits band bytes chunk used count reader got part long within hands = absurd hands
 
 module _ {A : Type 0} where
   -- an event of these bytes, on this band
@@ -127,3 +152,9 @@ module _ {A : Type 0} where
     answers More MoreGot takes other all hands = answers_all takes (all refl)
     answers EventNow got takes other all hands = absurd (other refl)
     answers outcome got takes other all hands = absurd hands
+
+  -- the same for a result with as many bytes used
+  pub feeds_again : (old new : Client A) (chunk : List ℕ) (arrived : Received) (used : ℕ) → arrived.used ≡ used
+      → Feeds old chunk (record { used = used; got = arrived.got }) new → Feeds old chunk arrived new
+  feeds_again old new chunk arrived used same feeds =
+      subst (λ (n : ℕ). Feeds old chunk (record { used = n; got = arrived.got }) new) (sym same) feeds

@@ -15,6 +15,7 @@ pub mod CanAsk
 pub mod EventSizes
 pub mod Taken
 pub mod HandedOut
+pub mod SameClients
 pub mod Twice
 pub mod Held
 pub mod Closed

@@ -1,6 +1,6 @@
 -- What the client has done when a packet is settled.
 use Rattle.std.proofs.Common.{arith, ◌≡◌, ◌≢◌, ◌⊎◌, inl, inr, ℕ, ◌<◌, ◌≤◌, true, false, List, [], ◌∷◌, length, take, drop, map}
-use Rattle.std.proofs.Common.{Some, None, Result, Ok, Err, refl, ap, sym, ◌∙◌, subst}
+use Rattle.std.proofs.Common.{Bor, Some, None, Result, Ok, Err, refl, ap, sym, ◌∙◌, subst}
 use Rattle.std.proofs.lemmas.List.{length-take-le}
 use Rattle.git_names.specs.declared.object_format.Format.{Format}
 use Rattle.git_pkt.specs.Packets.{Pkt, Spells, flush, delim, resp_end, payload, seen, text_of, body_of}
@@ -15,7 +15,7 @@ use Rattle.git_pkt.specs.declared.fault.Kind.{Kind}
 use Rattle.git_pkt.specs.declared.packet.Packet.{Packet}
 use Rattle.git_pkt.specs.declared.reader.BandFed.{BandFed}
 use Rattle.git_pkt.specs.declared.reader.BandGot.{BandGot}
-use Rattle.git_pkt.specs.declared.reader.BandGot.TheVariants.{Packet as BandPacketGot}
+use Rattle.git_pkt.specs.declared.reader.BandGot.TheVariants.{Packet as BandPacketGot, Part as BandPartGot}
 use Rattle.git_pkt.specs.declared.reader.Fed.{Fed}
 use Rattle.git_pkt.specs.declared.reader.Got.{Got}
 use Rattle.git_pkt.specs.declared.reader.Got.TheVariants.{Packet as PacketGot}
@@ -352,3 +352,15 @@ module _ {A : Type 0} where
     any = b.any;
     fits = omega (arith, parts_on band bytes, part.fits);
   }
+
+  -- all of a packet whose bytes pass, or a part of it
+  pub taken_band : (old read : Client A) (chunk : List ℕ) (fed : BandFed) (band : Band) (bytes : Bor (List ℕ)) (count : ℕ)
+      → phase_of old ≡ Receiving Packfile → format_of read ≡ format_of old → is_of_any_format read ≡ is_of_any_format old → ending_of read ≡ ending_of old
+      → FeedsBand (reader_of old) chunk fed (reader_of read) → fed.got ≡ BandPartGot band bytes → length bytes.now ≡ count
+      → phase_of read ≡ Receiving Packfile → caps_of read ≡ caps_of old
+      → Takes old chunk (record { used = fed.used; outcome = PassedNow (record { band = band; count = count }) }) read
+  taken_band old read chunk fed band bytes count receiving format any ending feeds is long now caps =
+      let announces : AnnouncesBand (BandPartGot band bytes) fed.used chunk (reader_of read) =
+      subst (λ (got : BandGot). AnnouncesBand got fed.used chunk (reader_of read)) is feeds.announces in
+      taken_part old read chunk fed.used band bytes.now count
+      (fed_bands old read chunk fed (BandPartGot band bytes) receiving format any ending feeds is) announces.0 announces.1 long now caps

@@ -16,7 +16,7 @@
 //! ```
 
 ghost use Rattle.std.specs.Prelude.{◌≡◌, ◌≢◌, ◌+◌, ◌-◌, ◌≤◌, ◌<◌, ◌↔◌, IsTrue, ℕ, suc, List, [], ◌∷◌, None, Err, true, false, length, take, drop};
-ghost use Rattle.std.specs.Prelude.{MatchOption, ◌*◌};
+ghost use Rattle.std.specs.Prelude.{IfSome, MatchOption, ◌*◌};
 ghost use Rattle.std.specs.Option.{ForSome};
 ghost use Rattle.std.specs.Borrow.{sem};
 ghost use Rattle.git_msg.specs.Machine.HeldRequest.{format_of as request_format, kept_of, limit_of, stored_of};
@@ -153,6 +153,7 @@ impl<A: Allocator + Copy> Client<A> {
     ghost use Rattle.git_client.specs.Machine.Client.{content_last, Converses, History, nothing_yet, ReceivesOn, Feeds, events_of, EndsWithMessage};
     ghost use Rattle.git_client.specs.Machine.Client.{EndsWithoutMessage, fault_of, can_ask, wants_input, has_left, left_to_send, bytes_used, caps_of};
     ghost use Rattle.git_client.specs.Machine.Client.{is_of_any_format, phase_of, reader_of, Takes, Settles};
+    ghost use Rattle.git_client.specs.Machine.Choosing.{may_choose};
     ghost use Rattle.git_client.specs.contracts.client.Client.{the_row};
 
     /// A client of this object format, before the first byte of the advertisement.
@@ -274,6 +275,42 @@ impl<A: Allocator + Copy> Client<A> {
             },
             _ => step.arrived(chunk),
         }
+    }
+
+    /// One call of [`Client::feed`] that returns bytes of the pack or of the progress, if the packfile section is expected and the chunk
+    /// begins with all of a packet that has some: a loop that tries this first reads a pack with fewer instructions. Otherwise nothing changes.
+    #[inline(always)]
+    pub fn pass_whole<'a>(&mut self, chunk: &'a [u8], steps: &mut Steps) -> Option<Received<'a>>
+        ensures feeds { MatchOption result (self.new ≡ self.old) (λ received. Feeds self.old chunk.now received self.new) }
+        ensures event { IfSome result (λ received. events_of received.got ≢ []) }
+        ensures used { IfSome result (λ received. received.used ≤ length chunk.now) }
+        ensures fits { IfSome result (λ received. all_parts_length (events_of received.got) ≤ longest_payload) }
+        ensures chosen { IfSome result (λ received. may_choose self.old ≡ false) }
+        ensures goes_on { IfSome result (λ received. can_ask self.new ≡ false) }
+        ensures cost { MatchOption result (steps.new ≡ steps.old) (λ received.
+            Pays received.used steps.old steps.new (credit_of (reader_of self.old)) (credit_of (reader_of self.new))) }
+    {
+        let Phase::Receiving(expected) = self.phase else {
+            return None;
+        };
+        let Expected::Packfile = expected else {
+            return None;
+        };
+        let Some(fed) = self.reader.pass_whole(chunk, steps) else {
+            return None;
+        };
+        let BandGot::Part(band, bytes) = fed.got else {
+            unreachable!()
+        };
+        let passed = Passed {
+            band,
+            count: bytes.len(),
+        };
+        let step = Advance {
+            used: fed.used,
+            outcome: Outcome::Passed(passed),
+        };
+        Some(step.arrived(chunk))
     }
 
     /// Ends the input although more was expected: the conversation is refused as truncated, at the end of

@@ -116,7 +116,7 @@ pub struct PacketReader {
 impl PacketReader {
     ghost use Rattle.git_pkt.specs.Machine.PacketReader.{Reads, ReadsOn, Feeds, Holds};
     ghost use Rattle.git_pkt.specs.Machine.PacketReader.{position_of, fault_of, rest_of, open_length, held_of, is_open, passes_of};
-    ghost use Rattle.git_pkt.specs.Machine.BandReader.{BandMoves, FeedsBand, MayPass, ReadsBandsOn};
+    ghost use Rattle.git_pkt.specs.Machine.BandReader.{BandMoves, FeedsBand, MayPass, ReadsBandsOn, part_of};
     ghost use Rattle.git_pkt.specs.contracts.reader.PacketReader.{the_row};
     ghost use Rattle.git_pkt.specs.Machine.LentHold.{LendsHold};
     ghost use Rattle.git_pkt.specs.Machine.PacketReaderSteps.{Moves, IsStopped, IsOfPacket, IsShown};
@@ -219,6 +219,29 @@ impl PacketReader {
             }
             _ => step.fed(chunk),
         }
+    }
+
+    /// One call of [`feed_band`](PacketReader::feed_band) that returns bytes of the pack or of the progress, if no packet is open and
+    /// the chunk begins with all of a packet that has some. Otherwise nothing changes.
+    #[inline(always)]
+    pub fn pass_whole<'a>(&mut self, chunk: &'a [u8], steps: &mut Steps) -> Option<BandFed<'a>>
+        requires passes { MayPass self.old }
+        ensures feeds { MatchOption result (self.new ≡ self.old) (λ fed. FeedsBand self.old chunk.now fed self.new) }
+        ensures part { IfSome result (λ fed. part_of fed.got ≢ []) }
+        ensures used { IfSome result (λ fed. fed.used ≤ length chunk.now) }
+        ensures cost { MatchOption result (steps.new ≡ steps.old) (λ fed. TakesAtMost (8 * (fed.used + 1)) steps.old steps.new) }
+    {
+        let State::Between = self.state else {
+            return None;
+        };
+        let Some(part) = self.pass_at_once(chunk, steps) else {
+            return None;
+        };
+        let step = BandStep {
+            used: part.count + 5,
+            progress: BandProgress::Part(part),
+        };
+        Some(step.fed(chunk))
     }
 
     /// The stream ends here. Between packets that is correct and changes nothing. If a packet is open, the stream is refused

@@ -127,6 +127,20 @@ nothing_listed old chunk events buffer = record {
   buffer_is = refl;
 }
 
+-- nothing has changed since
+pub listed_still : (old now later : Client Global) (chunk : List ℕ) (events : List GitwireEvent) (buffer : List ℕ) (used count texts : ℕ)
+    (filled kept : List GitwireEvent) (written same : List ℕ) → ListedSoFar old chunk events buffer now used count texts filled written
+    → later ≡ now → kept ≡ filled → same ≡ written → ListedSoFar old chunk events buffer later used count texts kept same
+listed_still old now later chunk events buffer used count texts filled kept written same h client_is filled_is written_is = record {
+  listed = h.listed;
+  bytes = h.bytes;
+  feeds = subst (λ (client : Client Global). FeedsEach old chunk 0 [] h.listed client used h.bytes) (sym client_is) h.feeds;
+  counts = h.counts;
+  long = h.long;
+  events_are = filled_is ∙ h.events_are;
+  buffer_is = written_is ∙ h.buffer_is;
+}
+
 pub listed_more : (old mid new : Client Global) (chunk : List ℕ) (events : List GitwireEvent) (buffer : List ℕ) (used count texts : ℕ)
     (filled next : List GitwireEvent) (written : List ℕ) (then : List ℕ) (further : Extent)
     → ListedSoFar old chunk events buffer mid used count texts filled written → count < length events

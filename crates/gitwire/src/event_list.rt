@@ -1,6 +1,6 @@
 //! Several events of a chunk by one call of C.
 
-ghost use Rattle.std.specs.Prelude.{◌≡◌, ◌+◌, ◌-◌, ◌≤◌, ◌<◌, ◌++◌, ℕ, List, MatchResult, false, length, take, drop};
+ghost use Rattle.std.specs.Prelude.{◌≡◌, ◌+◌, ◌-◌, ◌≤◌, ◌<◌, ◌++◌, ℕ, List, MatchOption, MatchResult, false, length, take, drop};
 ghost use Rattle.git_pkt.specs.Packets.{longest_payload};
 ghost use Rattle.gitwire.specs.Calls.{On};
 ghost use Rattle.git_client.specs.EventParts.{of_text, parts_shown};
@@ -80,6 +80,10 @@ fn fill_events(
         texts: 0,
     };
     while so_far.count < events.len() && LONGEST_PARTS <= buffer.len() - so_far.texts {
+        if let Some(end) = pass_next(client, chunk, so_far, events, buffer) {
+            so_far = end;
+            continue;
+        }
         match next(client, chunk, so_far, events, buffer) {
             Ok(further) => {
                 so_far = further;
@@ -141,6 +145,37 @@ fn next(
             ..GitwireAnswer::of_fault(used, fault)
         }),
     }
+}
+
+/// The same, if the other bytes begin with all of a packet whose bytes pass: no more is done for it. Otherwise nothing changes.
+#[inline(always)]
+fn pass_next(
+    client: &mut Client<Global>,
+    chunk: &[u8],
+    so_far: Extent,
+    events: &mut [GitwireEvent],
+    buffer: &mut [u8],
+) -> Option<Extent>
+    requires within { so_far.used ≤ length chunk.now }
+    requires place { so_far.count < length events.old }
+    requires suffices { so_far.texts + longest_payload ≤ length buffer.old }
+    ensures { MatchOption result ((client.new ≡ client.old) × (events.new ≡ events.old) × (buffer.new ≡ buffer.old))
+        (λ further. GivesEvent client.old chunk.now so_far.used so_far.count so_far.texts events.old buffer.old further events.new buffer.new client.new
+            × (can_ask client.new ≡ false)) }
+{
+    let Some(arrived) = client.pass_whole(&chunk[so_far.used..], &mut Steps::new()) else {
+        return None;
+    };
+    let ReceivedGot::Event(event) = arrived.got else {
+        unreachable!()
+    };
+    let used = so_far.used + arrived.used;
+    let shown = &mut events[so_far.count];
+    Some(Extent {
+        used,
+        count: so_far.count + 1,
+        texts: list(event, used, shown, buffer, so_far.texts),
+    })
 }
 
 /// Shows the event at this place, when so many bytes of the chunk are used. Its texts are written to the buffer from `at` on. Returns how many bytes of

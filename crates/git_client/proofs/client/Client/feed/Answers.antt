@@ -15,7 +15,7 @@ use Rattle.git_client.specs.declared.phase.LineContent.TheVariants.{Nothing}
 use Rattle.git_client.specs.declared.client.Client.{Client}
 use Rattle.git_client.specs.declared.client.Outcome.{Outcome}
 use Rattle.git_client.specs.declared.client.Outcome.TheVariants.{Event as EventNow}
-use Rattle.git_client.proofs.HandedOut.{answers, has_no_fault, has_part}
+use Rattle.git_client.proofs.HandedOut.{answers, feeds_again, has_no_fault, has_part}
 use Rattle.git_client.proofs.Opened.{no_turns}
 use Rattle.git_client.proofs.client.Client.feed.Goals as goal
 
@@ -77,11 +77,6 @@ module _ {A : Type 0} where
       → values_of event ≡ events_at (content_last new) (drop 4 (held_of (reader_of new))) → all_parts_length (values_of event) ≤ longest_payload
   event_fits old new chunk used EventNow event is takes shows = omega (arith, takes.fits, ap all_parts_length (takes.comes.0 ∙ sym shows))
   event_fits old new chunk used outcome event is takes shows = absurd (cc)
-
-  feeds_again : (old new : Client A) (chunk : List ℕ) (arrived : Received) (used : ℕ) → arrived.used ≡ used
-      → Feeds old chunk (record { used = used; got = arrived.got }) new → Feeds old chunk arrived new
-  feeds_again old new chunk arrived used same feeds =
-      subst (λ (n : ℕ). Feeds old chunk (record { used = n; got = arrived.got }) new) (sym same) feeds
 
 pub returns-in-Event : goal.returns-in-Event
 returns-in-Event g c =

@@ -2,10 +2,10 @@ use Rattle.std.proofs.Common.{◌≡◌, Some, ap, refl, subst}
 use Rattle.git_pkt.specs.Machine.BandReader.{AnnouncesBand}
 use Rattle.git_pkt.specs.Machine.PacketReader.{fault_of as reader_fault_of}
 use Rattle.git_pkt.specs.declared.reader.BandGot.{BandGot}
-use Rattle.git_pkt.specs.declared.reader.BandGot.TheVariants.{Failed, More, Part}
+use Rattle.git_pkt.specs.declared.reader.BandGot.TheVariants.{Failed, More}
 use Rattle.git_client.specs.Machine.Turns.{fault_in}
 use Rattle.git_client.specs.declared.phase.Expected.TheVariants.{Packfile}
-use Rattle.git_client.proofs.Taken.{fed_band_packet, fed_bands, settled, taken_all, taken_failed, taken_part}
+use Rattle.git_client.proofs.Taken.{fed_band_packet, fed_bands, settled, taken_all, taken_band, taken_failed}
 use Rattle.git_client.proofs.client.Client.take_band.Goals as goal
 
 pub returns-in-More-clause-takes : goal.returns-in-More-clause-takes
@@ -21,15 +21,8 @@ returns-in-More-clause-takes g c =
 
 pub returns-in-Part-clause-takes : goal.returns-in-Part-clause-takes
 returns-in-Part-clause-takes g c =
-    let old = c.args.self.now in
-    let fed = c.feed_band-fed.result in
-    let reader = c.feed_band-fed.follows.lender-at-none in
-    let feeds = c.feed_band-fed.follows.holds-at-none in
-    let announces : AnnouncesBand (Part c.in-Part.band c.in-Part.bytes) fed.used c.args.chunk.now reader =
-    subst (λ (got : BandGot). AnnouncesBand got fed.used c.args.chunk.now reader) c.in-Part.is feeds.announces in
-    taken_part old _ c.args.chunk.now fed.used c.in-Part.band c.in-Part.bytes.now _
-    (fed_bands old _ c.args.chunk.now fed (Part c.in-Part.band c.in-Part.bytes) c.requires.arrives refl refl refl feeds c.in-Part.is) announces.0 announces.1
-    refl c.requires.arrives refl
+    taken_band c.args.self.now _ c.args.chunk.now c.feed_band-fed.result c.in-Part.band c.in-Part.bytes _ c.requires.arrives refl refl refl
+    c.feed_band-fed.follows.holds-at-none c.in-Part.is refl c.requires.arrives refl
 
 pub returns-in-Packet-clause-takes : goal.returns-in-Packet-clause-takes
 returns-in-Packet-clause-takes g c =
