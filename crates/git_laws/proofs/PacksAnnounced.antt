@@ -13,9 +13,9 @@ use Rattle.git_client.proofs.Packs.{pack_bytes-append}
 use Rattle.git_server.specs.Answers.{asks_for_unborn, shown_line, shown_refs}
 use Rattle.git_server.specs.FetchAnswers.{common, is_ready_for, negotiates}
 use Rattle.git_server.specs.Repository.{Entry, Repository}
-use Rattle.git_laws.specs.AnnouncedAnswers.{answered_pack, found_refs, announced_all, announced_boundary, announced_by, announced_common}
-use Rattle.git_laws.specs.AnnouncedAnswers.{announced_fetch, announced_pack, announced_ready}
-use Rattle.git_laws.specs.AnnouncedAnswers.{announced_unborn}
+use Rattle.git_laws.specs.AnnouncedAnswers.{answered_pack, found_refs, announced_all, announced_boundaries, announced_boundary, announced_by}
+use Rattle.git_laws.specs.AnnouncedAnswers.{announced_common, announced_fetch, announced_pack, announced_packfile, announced_ready}
+use Rattle.git_laws.specs.AnnouncedAnswers.{announced_unborn, announced_wanted}
 use Rattle.git_msg.specs.Arguments.{Arg}
 
 -- events that have no byte of the pack
@@ -33,6 +33,10 @@ no_boundary : (line : Boundary) (later : List EventValue) → pack_bytes (announ
 no_boundary (Shallow id) later = refl
 no_boundary (Unshallow id) later = refl
 
+boundaries_packs : (lines : List Boundary) → pack_bytes (announced_boundaries lines) ≡ []
+boundaries_packs [] = refl
+boundaries_packs (line ∷ lines) = no_pack announced_boundary no_boundary (line ∷ lines)
+
 no_unborn_pack : (q : List Arg) (head : Option (List ℕ)) → pack_bytes (announced_unborn q head) ≡ []
 no_unborn_pack q None = refl
 no_unborn_pack q (Some target) =
@@ -48,14 +52,16 @@ after_none : (events later : List EventValue) (bytes : List ℕ) → pack_bytes 
 after_none events later bytes none is = pack_bytes-append events later ∙ rw none is
 
 module _ (repo : Repository) where
+  wanted_packs : (names : List (List ℕ)) → pack_bytes (announced_wanted repo names) ≡ []
+  wanted_packs [] = refl
+  wanted_packs (name ∷ names) = no_pack wanted_ref (λ x later. refl) (found_refs repo (name ∷ names))
+
   packfile_packs : (q : List Arg) → pack_bytes (announced_pack repo q) ≡ repo.pack q
   packfile_packs q =
-      let lines = map announced_boundary (repo.boundaries q) in
-      let refs = map wanted_ref (found_refs repo (want_refs_in q)) in
-      after_none (lines ++ refs) (map pack (repo.pack q)) (repo.pack q)
-      (after_none lines refs [] (no_pack announced_boundary no_boundary (repo.boundaries q))
-      (no_pack wanted_ref (λ x later. refl) (found_refs repo (want_refs_in q))))
-      (pack_is (repo.pack q))
+      let boundary = announced_boundaries (repo.boundaries q) in
+      let wanted = announced_wanted repo (want_refs_in q) in
+      after_none (boundary ++ wanted) (announced_packfile (repo.pack q)) (repo.pack q)
+      (after_none boundary wanted [] (boundaries_packs (repo.boundaries q)) (wanted_packs (want_refs_in q))) (pack_is (repo.pack q))
 
   ready_packs : (is_ready : Bool) (q : List Arg) → pack_bytes (announced_ready is_ready repo q) ≡ cond is_ready (repo.pack q) []
   ready_packs true q = packfile_packs q

@@ -1,5 +1,5 @@
 -- How a client advances from packet to packet of an answer.
-use Rattle.std.proofs.Common.{◌≡◌, ℕ, Bool, true, false, All, map, List, [], ◌∷◌, ◌++◌, None, Ok, refl, ap, sym, ◌∙◌, subst}
+use Rattle.std.proofs.Common.{◌≡◌, ℕ, Bool, true, false, All, map, List, [], ◌∷◌, ◌++◌, None, Some, Ok, refl, ap, sym, ◌∙◌, subst}
 use Rattle.std.proofs.Common.{append_assoc, slice_index, ◌≢◌}
 use Rattle.std.proofs.lemmas.List.{map-append}
 use Rattle.std.proofs.lemmas.List.Elements.{All-head, All-tail}
@@ -16,15 +16,16 @@ use Rattle.git_msg.specs.WrittenRequest.{text_line}
 use Rattle.git_msg.specs.declared.offers.Caps.{Caps}
 use Rattle.git_client.specs.Machine.Client.{AreWhole, Behind, IsExpected, IsExpectedIn, awaits_end}
 use Rattle.git_client.specs.Conversation.{GiveAll, GivesAt}
-use Rattle.git_client.specs.Events.{EventValue, ended, ended_by, events_of_flush, pack, Gives, GivesLine}
+use Rattle.git_client.specs.Events.{EventValue, ended, ended_by, events_of_flush, pack, section, Gives, GivesLine}
 use Rattle.git_client.specs.Parts.{Terms, advertisement_of, message_of, nearest, terms_of}
-use Rattle.git_client.specs.Sections.{may_begin, section_named}
+use Rattle.git_client.specs.Sections.{allows, section_named}
 use Rattle.git_client.specs.Machine.Turns.{NotesAfter, expected_after_header, phase_after, phase_after_response, place_expected}
 use Rattle.git_client.specs.declared.events.Ending.{Ending}
 use Rattle.git_client.specs.declared.events.Ending.TheVariants.{FlushOnly, ResponseEnd as WithResponseEnd}
 use Rattle.git_client.specs.declared.phase.Expected.{Expected}
 use Rattle.git_client.specs.declared.phase.Expected.TheVariants.{Acknowledgments, Header, Packfile, References, ShallowInfo, Sizes, WantedRefs, ResponseEnd}
 use Rattle.git_client.specs.declared.sections.Allowed.{Allowed}
+use Rattle.git_client.specs.declared.sections.Section.{Section}
 use Rattle.git_client.proofs.Judged.{gives_well, place_is}
 use Rattle.git_client.proofs.PartSteps.{expected_after, next_part, part_expected, stands}
 use Rattle.git_client.proofs.SectionSteps.{allowed_stays, inside_more}
@@ -142,14 +143,15 @@ module _ (t : Terms) (asked : List Asked) where
       )
 
   -- the header of a section that may begin, and then the others
-  pub header_gives : (text : List ℕ) (allowed : Allowed) (expected : Expected) (before ps : List Pkt) (later : List EventValue)
+  pub header_gives : (text : List ℕ) (begun : Section) (allowed : Allowed) (expected : Expected) (before ps : List Pkt) (later : List EventValue)
       → IsExpected t asked before (Header allowed)
-      → ¬ IsErrorText text → may_begin allowed (section_named text) ≡ true → expected_after_header allowed (section_named text) ≡ expected
+      → ¬ IsErrorText text → section_named text ≡ Some begun → allows allowed begun ≡ true
+      → expected_after_header allowed (section_named text) ≡ expected
       → (IsExpected t asked (text_line text ∷ before) expected → AnswerGives (text_line text ∷ before) ps later)
-      → AnswerGives before (text_line text ∷ ps) later
-  header_gives text allowed expected before ps later is clean may next others =
-      packet_gives before (Header allowed) (text_line text) [] ps later is
-      (of_text (Header allowed) (caps_at before) text [] (record { no_error = clean; conveys = may })) refl
+      → AnswerGives before (text_line text ∷ ps) (section begun ∷ later)
+  header_gives text begun allowed expected before ps later is clean named may next others =
+      packet_gives before (Header allowed) (text_line text) (section begun ∷ []) ps later is
+      (of_text (Header allowed) (caps_at before) text (section begun ∷ []) (record { no_error = clean; conveys = (named, may) })) refl
       (λ behind. others (rw (text_of-line_end text, next) at behind))
 
   -- packets of the pack's band, and then the others

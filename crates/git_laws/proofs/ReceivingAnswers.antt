@@ -35,12 +35,14 @@ use Rattle.git_msg.proofs.ResponseLines.{ack_reads_back, boundary_reads_back, in
 use Rattle.git_msg.proofs.WrittenNames.{hex_of-reads_back, length-hex_of}
 use Rattle.git_client.specs.Machine.Client.{AreWhole, IsExpected}
 use Rattle.git_client.specs.Conversation.{GiveAll}
-use Rattle.git_client.specs.Events.{EventValue, GivesLine, ack, ended, info, nak, pack, ready, reference, wanted_ref}
+use Rattle.git_client.specs.Events.{EventValue, GivesLine, ack, ended, info, nak, pack, ready, reference, section, wanted_ref}
 use Rattle.git_client.specs.Parts.{Terms, nearest}
 use Rattle.git_client.specs.Places.{acknowledgments as acknowledgments_at, references, shallow_info as shallow_place, sizes, wanted_refs as wanted_place}
 use Rattle.git_client.specs.Sections.{allowed_after, acks_with}
 use Rattle.git_client.specs.Machine.Turns.{after_acknowledgments, first_expected}
 use Rattle.git_client.specs.declared.phase.Expected.TheVariants.{Acknowledgments, Header, Packfile, References, ShallowInfo, SizeLine, Sizes, WantedRefs}
+use Rattle.git_client.specs.declared.sections.Section.TheVariants.{Acknowledgments as AcknowledgmentsHeader, ShallowInfo as ShallowInfoHeader}
+use Rattle.git_client.specs.declared.sections.Section.TheVariants.{WantedRefs as WantedRefsHeader, Packfile as PackfileHeader}
 use Rattle.git_client.specs.declared.sections.Allowed.{Allowed}
 use Rattle.git_client.specs.declared.sections.Acks.{Acks}
 use Rattle.git_client.proofs.Questions.{expected_stated}
@@ -54,8 +56,8 @@ use Rattle.git_server.specs.Packs.{IsPackfile, whole}
 use Rattle.git_server.specs.Repository.{Entry, IsNamed, IsOfFormat, IsSound, IsUnbornHead, Repository, found_ref}
 use Rattle.git_server.proofs.UnbornHead.{unborn_is_writable}
 use Rattle.git_laws.specs.AnnouncedAnswers.{AsksIn, CanBeWritten, IsEntryOfNames, end_packets, found_refs, packets_of}
-use Rattle.git_laws.specs.AnnouncedAnswers.{announced_boundary, announced_by, announced_common, announced_fetch, announced_pack}
-use Rattle.git_laws.specs.AnnouncedAnswers.{announced_ready, announced_refs, announced_sizes, announced_unborn}
+use Rattle.git_laws.specs.AnnouncedAnswers.{announced_boundaries, announced_boundary, announced_by, announced_common, announced_fetch, announced_pack}
+use Rattle.git_laws.specs.AnnouncedAnswers.{announced_packfile, announced_ready, announced_refs, announced_sizes, announced_unborn, announced_wanted}
 use Rattle.git_laws.proofs.Receiving.{AnswerGives, bands_give, caps_at, end_gives, given_give, given_whole, header_gives}
 use Rattle.git_laws.proofs.Receiving.{lines_give, no_error, of_text, packet_gives}
 use Rattle.git_msg.specs.Arguments.{Arg}
@@ -193,12 +195,13 @@ module _ (t : Terms) (asked : List Asked) (repo : Repository) (sound : IsSound r
 
   -- the section of the pack, and the end of the answer
   pack_gives : (bytes : List ℕ) (allowed : Allowed) (before packets : List Pkt) → IsPackfile whole bytes packets → IsExpected t asked before (Header allowed)
-      → AnswerGives t asked before (packets ++ end_packets t.ending) (map pack bytes ++ ended ∷ [])
+      → AnswerGives t asked before (packets ++ end_packets t.ending) (announced_packfile bytes ++ ended ∷ [])
   pack_gives bytes allowed before packets file is =
       let bands = file.ends.bands in
       let parts : packets ++ end_packets t.ending ≡ text_line (codes "packfile") ∷ (bands ++ (flush ∷ end_packets t.ending)) =
       simp (file.packets_are, file.ends.packets_are, append_assoc) in
-      rw parts (header_gives t asked (codes "packfile") allowed Packfile before _ _ is (no_error (codes "packfile") (λ e. omega arith)) refl refl
+      rw parts (header_gives t asked (codes "packfile") PackfileHeader allowed Packfile before _ _ is (no_error (codes "packfile") (λ e. omega arith)) refl refl
+      refl
       (λ is. bands_give t asked bands bytes _ (flush ∷ end_packets t.ending) (ended ∷ []) file.ends.are_bands is
       (λ behind is. end_gives t.format t.ending asked behind Packfile tt is)))
 
@@ -217,7 +220,7 @@ module _ (t : Terms) (asked : List Asked) (repo : Repository) (sound : IsSound r
   refs_give : (names : List (List ℕ)) (bytes : List ℕ) (allowed : Allowed) (before others : List Pkt) → allowed.wanted_refs ≡ true
       → IsPackfile whole bytes others → IsExpected t asked before (Header allowed)
       → AnswerGives t asked before ((wanted_refs repo names ++ others) ++ end_packets t.ending)
-      (map wanted_ref (found_refs repo names) ++ (map pack bytes ++ ended ∷ []))
+      (announced_wanted repo names ++ (announced_packfile bytes ++ ended ∷ []))
   refs_give [] bytes allowed before others may file is = pack_gives bytes allowed before others file is
   refs_give (name ∷ names) bytes allowed before others may file is =
       let wanteds = found_refs repo (name ∷ names) in
@@ -225,7 +228,8 @@ module _ (t : Terms) (asked : List Asked) (repo : Repository) (sound : IsSound r
       let left : Allowed = record { acknowledgments = false; shallow_info = allowed.shallow_info; wanted_refs = false } in
       let parts : ((filter_map (wanted_packet repo) (name ∷ names) ++ delim ∷ []) ++ others) ++ end_packets t.ending
       ≡ lines ++ (delim ∷ (others ++ end_packets t.ending)) = rw (wanted_packets repo (name ∷ names)) (simp append_assoc) in
-      rw parts (header_gives t asked (codes "wanted-refs") allowed (WantedRefs left) before _ _ is (no_error (codes "wanted-refs") (λ e. omega arith)) may refl
+      rw parts (header_gives t asked (codes "wanted-refs") WantedRefsHeader allowed (WantedRefs left) before _ _ is
+      (no_error (codes "wanted-refs") (λ e. omega arith)) refl may refl
       (λ is. lines_give t asked wanted_text wanted_ref (WantedRefs left) tt wanteds _ (delim ∷ (others ++ end_packets t.ending)) _ is
       (λ caps. wanted_lines (name ∷ names))
       (λ behind is. packet_gives t asked behind (WantedRefs left) delim [] (others ++ end_packets t.ending) _ is refl refl
@@ -242,7 +246,7 @@ module _ (t : Terms) (asked : List Asked) (repo : Repository) (sound : IsSound r
   LaterGives q others =
       (allowed : Allowed) (before : List Pkt) → allowed.wanted_refs ≡ true → IsExpected t asked before (Header allowed)
       → AnswerGives t asked before (others ++ end_packets t.ending)
-      (map wanted_ref (found_refs repo (want_refs_in q)) ++ (map pack (repo.pack q) ++ ended ∷ []))
+      (announced_wanted repo (want_refs_in q) ++ (announced_packfile (repo.pack q) ++ ended ∷ []))
 
   later_gives : (q : List Arg) (packets : List Pkt) → EndsWithRefs whole repo q packets → LaterGives q packets
   later_gives q packets h allowed before may is =
@@ -254,15 +258,15 @@ module _ (t : Terms) (asked : List Asked) (repo : Repository) (sound : IsSound r
       → allowed.wanted_refs ≡ true → IsExpected t asked before (Header allowed)
       → ((left : Allowed) (behind : List Pkt) → left.wanted_refs ≡ true → IsExpected t asked behind (Header left)
       → AnswerGives t asked behind (others ++ end_packets t.ending) later)
-      → AnswerGives t asked before ((shallow_info lines ++ others) ++ end_packets t.ending) (map announced_boundary lines ++ later)
+      → AnswerGives t asked before ((shallow_info lines ++ others) ++ end_packets t.ending) (announced_boundaries lines ++ later)
   boundary_gives [] allowed before others later all may may_refs is then = then allowed before may_refs is
   boundary_gives (line ∷ lines) allowed before others later all may may_refs is then =
       let left : Allowed = record { acknowledgments = false; shallow_info = false; wanted_refs = allowed.wanted_refs } in
       let all_lines = line ∷ lines in
       let behind = delim ∷ (others ++ end_packets t.ending) in
       let parts : ((map boundary_packet lines ++ delim ∷ []) ++ others) ++ end_packets t.ending ≡ map boundary_packet lines ++ behind = simp append_assoc in
-      rw parts (header_gives t asked (codes "shallow-info") allowed (ShallowInfo left) before (map boundary_packet all_lines ++ behind)
-      (map announced_boundary all_lines ++ later) is (no_error (codes "shallow-info") (λ e. omega arith)) may refl
+      rw parts (header_gives t asked (codes "shallow-info") ShallowInfoHeader allowed (ShallowInfo left) before (map boundary_packet all_lines ++ behind)
+      (map announced_boundary all_lines ++ later) is (no_error (codes "shallow-info") (λ e. omega arith)) refl may refl
       (λ is. lines_give t asked boundary_text announced_boundary (ShallowInfo left) tt all_lines _ behind later is
       (λ caps. all)
       (λ behind is. packet_gives t asked behind (ShallowInfo left) delim [] (others ++ end_packets t.ending) later is refl refl
@@ -273,8 +277,12 @@ module _ (t : Terms) (asked : List Asked) (repo : Repository) (sound : IsSound r
       → allowed.wanted_refs ≡ true → IsExpected t asked before (Header allowed)
       → AnswerGives t asked before (packets ++ end_packets t.ending) (announced_pack repo q ++ ended ∷ [])
   rest_gives q allowed before packets h may may_refs is =
-      let later = map wanted_ref (found_refs repo (want_refs_in q)) ++ (map pack (repo.pack q) ++ ended ∷ []) in
-      let events : announced_pack repo q ++ ended ∷ [] ≡ map announced_boundary (repo.boundaries q) ++ later = simp append_assoc in
+      let boundary = announced_boundaries (repo.boundaries q) in
+      let wanted = announced_wanted repo (want_refs_in q) in
+      let file = announced_packfile (repo.pack q) in
+      let later = wanted ++ (file ++ ended ∷ []) in
+      let events : announced_pack repo q ++ ended ∷ [] ≡ boundary ++ later =
+      append_assoc (boundary ++ wanted) file (ended ∷ []) ∙ append_assoc boundary wanted (file ++ ended ∷ []) in
       rw (h.packets_are, events)
       (boundary_gives (repo.boundaries q) allowed before h.others later (boundary_lines q) may may_refs is (later_gives q h.others h.holds))
 
@@ -329,7 +337,7 @@ module _ (t : Terms) (asked : List Asked) (repo : Repository) (sound : IsSound r
   negotiated_gives : (is_ready : Bool) (q : List Arg) (allowed : Allowed) (before packets : List Pkt) → allowed.acknowledgments ≡ true
       → IsExpected t asked before (Header allowed) → All (IsNameIn t.format) (haves_in q) → IsNegotiated is_ready (acknowledgments repo q) whole repo q packets
       → AnswerGives t asked before (packets ++ end_packets t.ending)
-      ((announced_common (common repo.has (haves_in q)) ++ announced_ready is_ready repo q) ++ ended ∷ [])
+      (section AcknowledgmentsHeader ∷ ((announced_common (common repo.has (haves_in q)) ++ announced_ready is_ready repo q) ++ ended ∷ []))
   negotiated_gives true q allowed before packets may is haves answer =
       let ids = common repo.has (haves_in q) in
       let behind = ready_lines ++ (answer.others ++ end_packets t.ending) in
@@ -338,8 +346,8 @@ module _ (t : Terms) (asked : List Asked) (repo : Repository) (sound : IsSound r
       rw answer.packets_are (append_assoc (acknowledgments repo q ++ ready_lines) answer.others (end_packets t.ending)
       ∙ append_assoc (acknowledgments repo q) ready_lines (answer.others ++ end_packets t.ending)) in
       rw (parts, append_assoc (announced_common ids) (ready ∷ announced_pack repo q) (ended ∷ []))
-      (header_gives t asked (codes "acknowledgments") allowed (Acknowledgments (announced_acks false)) before (nak_or_acks ids ++ behind)
-      (announced_common ids ++ (ready ∷ later)) is (no_error (codes "acknowledgments") (λ e. omega arith)) may refl
+      (header_gives t asked (codes "acknowledgments") AcknowledgmentsHeader allowed (Acknowledgments (announced_acks false)) before
+      (nak_or_acks ids ++ behind) (announced_common ids ++ (ready ∷ later)) is (no_error (codes "acknowledgments") (λ e. omega arith)) refl may refl
       (λ is. common_gives ids (text_line (codes "acknowledgments") ∷ before) behind (ready ∷ later)
       (All-filter repo.has (IsNameIn t.format) (haves_in q) haves) is
       (λ announced front not_yet is. ready_gives announced front (answer.others ++ end_packets t.ending) later not_yet is
@@ -350,8 +358,8 @@ module _ (t : Terms) (asked : List Asked) (repo : Repository) (sound : IsSound r
       let parts : packets ++ end_packets t.ending ≡ text_line (codes "acknowledgments") ∷ (nak_or_acks ids ++ last) =
       rw answer (append_assoc (acknowledgments repo q) (flush ∷ []) (end_packets t.ending)) in
       rw (parts, append_assoc (announced_common ids) [] (ended ∷ []))
-      (header_gives t asked (codes "acknowledgments") allowed (Acknowledgments (announced_acks false)) before (nak_or_acks ids ++ last)
-      (announced_common ids ++ (ended ∷ [])) is (no_error (codes "acknowledgments") (λ e. omega arith)) may refl
+      (header_gives t asked (codes "acknowledgments") AcknowledgmentsHeader allowed (Acknowledgments (announced_acks false)) before
+      (nak_or_acks ids ++ last) (announced_common ids ++ (ended ∷ [])) is (no_error (codes "acknowledgments") (λ e. omega arith)) refl may refl
       (λ is. common_gives ids (text_line (codes "acknowledgments") ∷ before) last (ended ∷ []) (All-filter repo.has (IsNameIn t.format) (haves_in q) haves) is
       (λ announced front not_yet is. end_gives t.format t.ending asked front (Acknowledgments announced) not_yet is)))
 

@@ -16,9 +16,10 @@ use Rattle.git_msg.specs.Asked.{Asked, ls_refs, fetch, object_info, haves_in, oi
 use Rattle.git_msg.specs.Features.{features_value, fetch_features, ls_refs_features}
 use Rattle.git_msg.specs.References.{reference_of}
 use Rattle.git_msg.specs.ResponseLines.{IsSize, Wanted, object_of, wanted_of}
-use Rattle.git_client.specs.Events.{EventValue, capability, offered, reference, ack, nak, ready, shallow, unshallow, wanted_ref, pack, info, ended}
+use Rattle.git_client.specs.Events.{EventValue, capability, offered, reference, section, ack, nak, ready, shallow, unshallow, wanted_ref, pack, info, ended}
 use Rattle.git_client.specs.declared.events.Ending.{Ending}
 use Rattle.git_client.specs.declared.events.Ending.TheVariants.{FlushOnly, ResponseEnd}
+use Rattle.git_client.specs.declared.sections.Section.TheVariants.{Acknowledgments, ShallowInfo, WantedRefs, Packfile}
 use Rattle.git_server.specs.Answers.{asks_for_unborn, shown_line, shown_refs}
 use Rattle.git_server.specs.FetchAnswers.{common, is_ready_for, negotiates}
 use Rattle.git_server.specs.Repository.{Entry, Repository, found_ref}
@@ -44,13 +45,27 @@ abbrev pub announced_boundary : Boundary → EventValue
 announced_boundary (Shallow id) = shallow id
 announced_boundary (Unshallow id) = unshallow id
 
+-- the section of the shallow boundary, which is present if the boundary has commits
+abbrev pub announced_boundaries : List Boundary → List EventValue
+announced_boundaries [] = []
+announced_boundaries (line ∷ lines) = section ShallowInfo ∷ map announced_boundary (line ∷ lines)
+
 -- the references among those that were asked for by name that exist
 abbrev pub found_refs : Repository → List (List ℕ) → List Wanted
 found_refs repo names = filter_map (λ name. option_map (λ id. wanted_of id name) (found_ref repo.refs name)) names
 
--- the boundary, the wanted references and each byte of the pack
+-- the section of wanted references, which is present if some were asked for
+abbrev pub announced_wanted : Repository → List (List ℕ) → List EventValue
+announced_wanted repo [] = []
+announced_wanted repo (name ∷ names) = section WantedRefs ∷ map wanted_ref (found_refs repo (name ∷ names))
+
+-- the section of the pack, and each byte of it
+abbrev pub announced_packfile : List ℕ → List EventValue
+announced_packfile bytes = section Packfile ∷ map pack bytes
+
+-- the sections of the boundary, of the wanted references and of the pack
 abbrev pub announced_pack : Repository → List Arg → List EventValue
-announced_pack repo q = map announced_boundary (repo.boundaries q) ++ map wanted_ref (found_refs repo (want_refs_in q)) ++ map pack (repo.pack q)
+announced_pack repo q = announced_boundaries (repo.boundaries q) ++ announced_wanted repo (want_refs_in q) ++ announced_packfile (repo.pack q)
 
 -- the events after the objects that both sides have: the pack, or nothing
 abbrev pub announced_ready : Bool → Repository → List Arg → List EventValue
@@ -59,7 +74,8 @@ announced_ready false repo q = []
 
 -- the answer to a fetch that negotiates or not
 abbrev pub announced_fetch : Bool → Repository → List Arg → List EventValue
-announced_fetch true repo q = announced_common (common repo.has (haves_in q)) ++ announced_ready (is_ready_for repo q) repo q
+announced_fetch true repo q =
+    section Acknowledgments ∷ (announced_common (common repo.has (haves_in q)) ++ announced_ready (is_ready_for repo q) repo q)
 announced_fetch false repo q = announced_pack repo q
 
 -- the sizes of the objects that were asked about
