@@ -18,6 +18,7 @@ from typing import NamedTuple, Optional
 # The numbers of gitwire.h.
 DONE, MORE, FAILED, REQUEST, PACKET, NEED_INPUT, CAN_ASK, FINISHED = 0, 1, 2, 13, 15, 16, 19, 20
 CAPABILITY, OFFERED, REFERENCE, ACK, NAK, READY, SHALLOW, UNSHALLOW, WANTED_REF, INFO, PACK, PROGRESS, ENDED = range(21, 34)
+SECTION = 45
 SHA1, SHA256 = 1, 2
 ENDS_BY_FLUSH, ENDS_BY_RESPONSE_END = 1, 2
 COMMANDS = {1: "ls-refs", 2: "fetch", 3: "object-info"}
@@ -223,6 +224,8 @@ class Transcript:
         id_, name = (event.id or b"").decode(), escaped(event.name or b"")
         if event.kind in self.counts:
             self.counts[event.kind] += len(event.text)
+            return ""
+        if event.kind == SECTION:
             return ""
         if event.kind == CAPABILITY:
             return f"capability {name}{'' if event.text is None else '=' + escaped(event.text)}\n"

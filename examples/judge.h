@@ -285,7 +285,7 @@ static void show_event(struct judge *judge, const gitwire_event *event, uint64_t
 	putc('\n', to);
 }
 
-/* Takes an event of the server. Bytes of the pack and of the progress are counted. False if there is no memory. */
+/* Takes an event of the server. Bytes of the pack and of the progress are counted, and a section has no line. False if there is no memory. */
 static bool take_event(struct judge *judge, const gitwire_event *event, uint64_t offset)
 {
 	if (event->kind == GITWIRE_CAPABILITY && !note_other(&judge->others, part_of(event, GITWIRE_PART_NAME), part_of(event, GITWIRE_PART_TEXT)))
@@ -294,7 +294,7 @@ static bool take_event(struct judge *judge, const gitwire_event *event, uint64_t
 		judge->pack += event->text_length;
 	else if (event->kind == GITWIRE_PROGRESS)
 		judge->progress += event->text_length;
-	else if (event->kind != GITWIRE_MORE)
+	else if (event->kind != GITWIRE_MORE && event->kind != GITWIRE_SECTION)
 		show_event(judge, event, offset);
 	if (event->kind == GITWIRE_ENDED)
 		judge->pack = judge->progress = 0;

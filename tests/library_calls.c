@@ -304,7 +304,8 @@ static void hear(struct talk *t, gitwire_event e, const uint8_t *chunk)
 	static const char *const names[] = { [GITWIRE_CAPABILITY] = "capability", [GITWIRE_OFFERED] = "offered",
 		[GITWIRE_REFERENCE] = "reference", [GITWIRE_ACK] = "ack", [GITWIRE_NAK] = "nak", [GITWIRE_READY] = "ready",
 		[GITWIRE_SHALLOW] = "shallow", [GITWIRE_UNSHALLOW] = "unshallow", [GITWIRE_WANTED_REF] = "wanted", [GITWIRE_INFO] = "info",
-		[GITWIRE_PACK] = "pack", [GITWIRE_PROGRESS] = "progress", [GITWIRE_ENDED] = "ended" };
+		[GITWIRE_PACK] = "pack", [GITWIRE_PROGRESS] = "progress", [GITWIRE_ENDED] = "ended",
+		[GITWIRE_SECTION] = "section" };
 	bool is_passed = e.kind == GITWIRE_PACK || e.kind == GITWIRE_PROGRESS;
 
 	EXPECT(e.kind < sizeof names / sizeof *names && names[e.kind] != NULL && e.fault == 0);
@@ -424,15 +425,51 @@ static void try_a_conversation(void)
 		"reference " ONE " refs/heads/main\n" "reference " TWO " refs/tags/v1 " ONE "\n" "ended\n"));
 	EXPECT(hears(&t, GITWIRE_OBJECT_INFO, sizes, "info " TWO " size 140\n"
 		"info 3333333333333333333333333333333333333333\n" "ended\n"));
-	EXPECT(hears(&t, GITWIRE_FETCH, common, "nak\n" "ended\n"));
-	EXPECT(hears(&t, GITWIRE_FETCH, shallow, "ack " ONE "\n" "ready\n" "shallow " ONE "\n" "unshallow " TWO "\n"
-		"wanted " TWO " refs/tags/v1\n" "pack PACK has-text\n" "ended\n"));
+	EXPECT(hears(&t, GITWIRE_FETCH, common, "section acknowledgments\n" "nak\n" "ended\n"));
+	EXPECT(hears(&t, GITWIRE_FETCH, shallow, "section acknowledgments\n" "ack " ONE "\n" "ready\n"
+		"section shallow-info\n" "shallow " ONE "\n" "unshallow " TWO "\n"
+		"section wanted-refs\n" "wanted " TWO " refs/tags/v1\n" "section packfile\n" "pack PACK has-text\n" "ended\n"));
 	EXPECT(gitwire_client_leave(t.client) == GITWIRE_DONE);
 	EXPECT(gitwire_client_leave(t.client) == GITWIRE_NOT_NOW);
 	EXPECT(go_on(&t) == GITWIRE_FINISHED);
 	EXPECT(tells(gitwire_server_pull(t.server, BUFFER), GITWIRE_ENDED_BY_FLUSH, 0, 0, 0));
 	gitwire_client_free(t.client);
 	gitwire_server_free(t.server);
+	memset(buffer, '#', sizeof buffer);
+}
+
+/* Feeds the client these bytes of a server. Returns whether exactly these events come. */
+static bool hears_of(struct talk *t, const char *bytes, const char *wanted)
+{
+	const uint8_t *chunk = (const uint8_t *)bytes;
+	size_t length = strlen(bytes);
+
+	t->length = 0;
+	for (size_t used = 0; used < length;) {
+		gitwire_event event = gitwire_client_feed(t->client, chunk + used, length - used, BUFFER);
+		if (event.used == 0)
+			return false;
+		if (event.kind != GITWIRE_MORE)
+			hear(t, event, chunk + used);
+		used += event.used;
+	}
+	return t->length == strlen(wanted) && memcmp(t->heard, wanted, t->length) == 0;
+}
+
+/* A section without lines is seen: it begins, and then the next one does. */
+static void try_an_empty_section(void)
+{
+	static const char *const lines[] = { "want " ONE, "done", NULL };
+	static uint8_t packet[GITWIRE_PACKET_SIZE];
+	struct talk t = { .server = NULL };
+
+	EXPECT(gitwire_client_new(&t.client, GITWIRE_SHA1, GITWIRE_ENDS_BY_FLUSH) == GITWIRE_DONE);
+	EXPECT(hears_of(&t, "000eversion 2\n" "000afetch\n" "0000", "capability fetch\n" "offered\n"));
+	EXPECT(tells(ask(&t, GITWIRE_FETCH, lines), GITWIRE_DONE, 0, 0, 0));
+	while (gitwire_client_pull(t.client, packet, sizeof packet).kind == GITWIRE_PACKET)
+		;
+	EXPECT(hears_of(&t, "0011shallow-info\n" "0001" "000dpackfile\n" "0000", "section shallow-info\n" "section packfile\n" "ended\n"));
+	gitwire_client_free(t.client);
 	memset(buffer, '#', sizeof buffer);
 }
 
@@ -445,8 +482,8 @@ static bool gives_packs(gitwire_repository *repository, const char *pack, const 
 	struct talk t;
 	bool are_they;
 
-	snprintf(heard, sizeof heard, "%sended\n", pack);
-	snprintf(heard_filtered, sizeof heard_filtered, "%sended\n", filtered);
+	snprintf(heard, sizeof heard, "section packfile\n%sended\n", pack);
+	snprintf(heard_filtered, sizeof heard_filtered, "section packfile\n%sended\n", filtered);
 	begin_talk_over(&t, repository);
 	EXPECT(go_on(&t) == GITWIRE_CAN_ASK);
 	are_they = hears(&t, GITWIRE_FETCH, wants, heard) && hears(&t, GITWIRE_FETCH, filters, heard_filtered)
@@ -530,7 +567,7 @@ static void try_bands(void)
 	while (gitwire_client_pull(t.client, BUFFER).kind == GITWIRE_PACKET)
 		;
 	t.length = 0;
-	EXPECT(gitwire_client_feed(t.client, BYTES("000dpackfile\n"), BUFFER).kind == GITWIRE_MORE);
+	EXPECT(gitwire_client_feed(t.client, BYTES("000dpackfile\n"), BUFFER).kind == GITWIRE_SECTION);
 	hear(&t, gitwire_client_feed(t.client, progress, sizeof progress - 1, BUFFER), progress);
 	hear(&t, gitwire_client_feed(t.client, pack, sizeof pack - 1, BUFFER), pack);
 	t.heard[t.length] = 0;
@@ -570,7 +607,7 @@ static void try_bands_in_place(void)
 	EXPECT(tells(ask(&t, GITWIRE_FETCH, wants), GITWIRE_DONE, 0, 0, 0));
 	while (gitwire_client_pull(t.client, BUFFER).kind == GITWIRE_PACKET)
 		;
-	EXPECT(gitwire_client_feed(t.client, BYTES("000dpackfile\n"), BUFFER).kind == GITWIRE_MORE);
+	EXPECT(gitwire_client_feed(t.client, BYTES("000dpackfile\n"), BUFFER).kind == GITWIRE_SECTION);
 	memset(buffer, '#', sizeof buffer);
 	event = gitwire_client_feed(t.client, (const uint8_t *)pack, 15, BUFFER);
 	EXPECT(lies_in(event, pack, GITWIRE_PROGRESS, 8, "50%"));
@@ -838,6 +875,7 @@ static void *try_all(void *nothing)
 	try_a_server();
 	try_a_refused_session();
 	try_a_conversation();
+	try_an_empty_section();
 	try_filtered_packs();
 	try_lent_packs();
 	try_bands();

@@ -114,7 +114,9 @@ typedef enum gitwire_result {
 	GITWIRE_NEED_REFERENCE = 41,    /* the next reference, or the end: gitwire_host_reference, _unborn, _references_end */
 	GITWIRE_NEED_SIZE = 42,         /* the size of the object at this index of LIST_OIDS: gitwire_host_size */
 	GITWIRE_OUT_OF_ORDER = 43,      /* a reference does not come after the one reported before it; nothing changed */
-	GITWIRE_NOT_SHALLOW = 44        /* an `unshallow` line of a commit that the request does not call shallow; nothing changed */
+	GITWIRE_NOT_SHALLOW = 44,       /* an `unshallow` line of a commit that the request does not call shallow; nothing changed */
+	/* what a client receives, too */
+	GITWIRE_SECTION = 45            /* a section of the response to `fetch` begins */
 } gitwire_result;
 
 /* Why something was refused: `fault` of what is returned, or 0. docs/PROTOCOL.md states the offset of each. */

@@ -38,6 +38,7 @@ gitwire_result gitwire_client_new(gitwire_client **client, gitwire_format format
  *   CAPABILITY   the name is its key, the text its value, if it has one
  *   REFERENCE    id, name, the target of a symbolic reference (text), what an annotated tag peels to (peeled); no id if it is
  *                unborn, as HEAD is while its branch has no commit
+ *   SECTION      name: a section of the response to `fetch` begins here; it ends where the next one begins, or with ENDED
  *   ACK, SHALLOW, UNSHALLOW   id
  *   WANTED_REF   id, name
  *   INFO         id; the size, if the server has the object (`has_size`)

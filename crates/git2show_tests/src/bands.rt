@@ -91,11 +91,12 @@ fn a_part_is_all_that_the_chunk_has(rt: HostRuntime) -> Result<(), Fail> {
     Ok(())
 }
 
-/// Appends the bytes of an event of side bands, and a bar; the name of any other event.
+/// Appends the bytes of an event of side bands, the name of a section that begins, or the name of the end, and a bar.
 fn append_event(arrived: &mut Vec<u8>, event: &Event<'_>) -> Result<(), AllocError> {
     match event {
         Event::Pack(bytes) => arrived.extend_from_slice(bytes)?,
         Event::Progress(bytes) => arrived.extend_from_slice(bytes)?,
+        Event::Section(section) => arrived.extend_from_slice(section.name().as_bytes())?,
         Event::Ended => arrived.extend_from_slice(b"ended")?,
         _ => {}
     }
@@ -140,7 +141,7 @@ fn a_client_hands_out_each_byte_of_a_pack_as_it_comes(rt: HostRuntime) -> Result
     for byte in b"000dpackfile\n0008\x01ABC0006\x02x0005\x010000".chunks(1) {
         receive_chunk(&mut client, byte, &mut arrived)?;
     }
-    expect_bytes(&rt, &arrived, b"A|B|C|x|ended|");
+    expect_bytes(&rt, &arrived, b"packfile|A|B|C|x|ended|");
     assert!(rt; client.can_ask());
     Ok(())
 }
@@ -152,7 +153,7 @@ fn what_came_of_an_open_packet_was_handed_out(rt: HostRuntime) -> Result<(), Fai
     for chunk in [b"000dpackfile\n".as_slice(), b"0009\x01AB"] {
         receive_chunk(&mut client, chunk, &mut arrived)?;
     }
-    expect_bytes(&rt, &arrived, b"AB|");
+    expect_bytes(&rt, &arrived, b"packfile|AB|");
     assert!(rt; client.wants_input());
     let fault = client.close();
     assert!(rt; fault.kind == Kind::Truncated);

@@ -1,7 +1,7 @@
 //! The lines of a transcript, and writers that fail under them.
 
 use crate::expecting::{expect, expect_bytes};
-use git_client::{Event, write_asked, write_event};
+use git_client::{Event, Section, write_asked, write_event};
 use git_msg::{Capability, Command};
 use git_pkt::{Recorded, RunFault};
 use std::process::Abort;
@@ -30,10 +30,11 @@ fn expect_line(
 
 #[test]
 fn each_event_is_a_line(rt: HostRuntime) -> Result<(), Fail> {
-    let rows: [(Event<'static>, &[u8]); 10] = [
+    let rows: [(Event<'static>, &[u8]); 11] = [
         (Event::Offered, b"offered\n"),
         (Event::Nak, b"nak\n"),
         (Event::Ready, b"ready\n"),
+        (Event::Section(Section::ShallowInfo), b""),
         (Event::Pack(b"PACK"), b""),
         (Event::Progress(b"half\n"), b""),
         (Event::Ended, b"end 7 8\n"),

@@ -2,11 +2,12 @@
 
 ghost use Rattle.std.specs.Prelude.{◌≡◌, ◌≢◌, ◌++◌, ◌∷◌, [], None, Some, codes, false, true};
 ghost use Rattle.git_client.specs.Conversation.{FirstMalformed, GivesAt, HasEvents, IsConversation, RefusesAt};
-ghost use Rattle.git_client.specs.Events.{ack, ended, info, nak, offered, pack, progress, ready, reference, shallow, unshallow, wanted_ref};
+ghost use Rattle.git_client.specs.Events.{ack, ended, info, nak, offered, pack, progress, ready, reference, section, shallow, unshallow, wanted_ref};
 ghost use Rattle.git_client.specs.Packs.{HasPack};
 ghost use Rattle.git_client.specs.Parts.{terms_of};
 ghost use Rattle.git_client.specs.Transcript.{transcript_of};
 ghost use Rattle.git_client.specs.declared.events.Ending.TheVariants.{FlushOnly, ResponseEnd};
+ghost use Rattle.git_client.specs.declared.sections.Section.TheVariants.{Acknowledgments, Packfile, ShallowInfo, WantedRefs};
 ghost use Rattle.git_msg.specs.Advertisement.{noted_of};
 ghost use Rattle.git_msg.specs.ResponseLines.{wanted_of};
 ghost use Rattle.git_msg.specs.WrittenRequest.{text_line};
@@ -38,14 +39,15 @@ pub fn reference_received()
 
 /// A pack of one byte, received whole and as the beginning of a packet.
 pub fn pack_received()
-    ensures whole { IsConversation terms asked_fetch (pack_bytes 1 (codes "0000")) (offered ∷ pack 65 ∷ ended ∷ []) }
-    ensures begun { HasEvents terms asked_fetch (pack_bytes 1 (codes "0007" ++ 1 ∷ codes "B")) (offered ∷ pack 65 ∷ pack 66 ∷ []) }
+    ensures whole { IsConversation terms asked_fetch (pack_bytes 1 (codes "0000")) (offered ∷ section Packfile ∷ pack 65 ∷ ended ∷ []) }
+    ensures begun { HasEvents terms asked_fetch (pack_bytes 1 (codes "0007" ++ 1 ∷ codes "B")) (offered ∷ section Packfile ∷ pack 65 ∷ pack 66 ∷ []) }
     ensures bytes { HasPack terms asked_fetch (pack_bytes 1 (codes "0000")) (codes "A") }
     ensures bytes_of_an_open_packet { HasPack terms asked_fetch (pack_bytes 1 (codes "0007" ++ 1 ∷ codes "B")) (codes "AB") }
     ensures progress_is_no_pack { HasPack terms asked_fetch (pack_bytes 2 (codes "0000")) [] }
     ensures not_another_byte { ¬ HasPack terms asked_fetch (pack_bytes 1 (codes "0000")) (codes "B") }
     ensures not_the_progress { ¬ HasPack terms asked_fetch (pack_bytes 2 (codes "0000")) (codes "A") }
-    ensures not_less_of_an_open_packet { ¬ HasEvents terms asked_fetch (pack_bytes 1 (codes "0007" ++ 1 ∷ codes "B")) (offered ∷ pack 65 ∷ []) }
+    ensures not_less_of_an_open_packet { ¬ HasEvents terms asked_fetch (pack_bytes 1 (codes "0007" ++ 1 ∷ codes "B"))
+        (offered ∷ section Packfile ∷ pack 65 ∷ []) }
 {}
 
 /// The first error of bytes: in a packet, in bytes that are no packet, and at the end of the input.
@@ -62,7 +64,7 @@ pub fn first_faults_received()
 
 /// Packets of a response to a fetch that negotiates.
 pub fn acknowledgments_received()
-    ensures header { GivesAt terms asked_haves offered_before (text_line (codes "acknowledgments")) [] }
+    ensures header { GivesAt terms asked_haves offered_before (text_line (codes "acknowledgments")) (section Acknowledgments ∷ []) }
     ensures none { GivesAt terms asked_haves after_acks (text_line (codes "NAK")) (nak ∷ []) }
     ensures one { GivesAt terms asked_haves after_acks (text_line (codes "ACK " ++ all_a)) (ack name_a ∷ []) }
     ensures is_ready { GivesAt terms asked_haves after_acks (text_line (codes "ready")) (ready ∷ []) }
@@ -78,6 +80,10 @@ pub fn acknowledgments_received()
 
 /// Packets of the sections that come before a pack, and of the pack.
 pub fn sections_received()
+    ensures boundary_begins { GivesAt terms asked_fetch offered_before (text_line (codes "shallow-info")) (section ShallowInfo ∷ []) }
+    ensures references_begin { GivesAt terms asked_fetch offered_before (text_line (codes "wanted-refs")) (section WantedRefs ∷ []) }
+    ensures pack_begins_after_an_empty_section { GivesAt terms asked_fetch (delim ∷ after_header (codes "shallow-info")) (text_line (codes "packfile"))
+        (section Packfile ∷ []) }
     ensures cut_history { GivesAt terms asked_fetch (after_header (codes "shallow-info")) (text_line (codes "shallow " ++ all_a)) (shallow name_a ∷ []) }
     ensures more_history { GivesAt terms asked_fetch (after_header (codes "shallow-info")) (text_line (codes "unshallow " ++ all_a)) (unshallow name_a ∷ []) }
     ensures wanted { GivesAt terms asked_fetch (after_header (codes "wanted-refs")) (text_line (all_a ++ codes " refs/x"))
@@ -89,6 +95,8 @@ pub fn sections_received()
     ensures bad_band { RefusesAt terms asked_fetch (after_header (codes "packfile")) (payload (4 ∷ [])) BadBand }
     ensures second_section { RefusesAt terms asked_fetch (delim ∷ after_header (codes "shallow-info")) (text_line (codes "shallow-info")) UnexpectedSection }
     ensures flush_before_the_pack { RefusesAt terms asked_fetch (after_header (codes "shallow-info")) flush UnexpectedPacket }
+    ensures not_another_section { ¬ GivesAt terms asked_fetch offered_before (text_line (codes "shallow-info")) (section WantedRefs ∷ []) }
+    ensures not_unannounced { ¬ GivesAt terms asked_fetch offered_before (text_line (codes "shallow-info")) [] }
     ensures not_the_other_band { ¬ GivesAt terms asked_fetch (after_header (codes "packfile")) (payload (2 ∷ codes "A")) (pack 65 ∷ []) }
     ensures not_refused { ¬ RefusesAt terms asked_fetch (after_header (codes "packfile")) (payload (1 ∷ [])) NoBand }
 {}

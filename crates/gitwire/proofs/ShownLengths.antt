@@ -58,6 +58,7 @@ shown_fits (Event.Reference id name target peeled) = omega (
   text_length (option_copied target),
   digits_fit_in (option_copied peeled),
 )
+shown_fits (Event.Section begun) = omega (arith, shown_length (parts_of (Event.Section begun)))
 shown_fits (Event.Ack id) = omega (arith, shown_length (parts_of (Event.Ack id)), hex_of-fits id.now)
 shown_fits (Event.Shallow id) = omega (arith, shown_length (parts_of (Event.Shallow id)), hex_of-fits id.now)
 shown_fits (Event.Unshallow id) = omega (arith, shown_length (parts_of (Event.Unshallow id)), hex_of-fits id.now)

@@ -59,6 +59,7 @@ what_number NeedReference = 41
 what_number NeedSize = 42
 what_number OutOfOrder = 43
 what_number NotShallow = 44
+what_number (Event EventKind.Section) = 45
 
 -- what is reported for a chunk if nothing else is: more is to come, or none was expected
 abbrev pub more_of : Bool → What

@@ -52,6 +52,7 @@ what_name What.NeedReference = codes "NeedReference"
 what_name What.NeedSize = codes "NeedSize"
 what_name What.OutOfOrder = codes "OutOfOrder"
 what_name What.NotShallow = codes "NotShallow"
+what_name (What.Event EventKind.Section) = codes "Section"
 
 -- what has this number, or nothing has it
 abbrev pub IsWhatOf : ℕ → Option What → Type 0

@@ -143,6 +143,7 @@ macro_rules! kinds {
             NeedSize = 42 "NeedSize";
             OutOfOrder = 43 "OutOfOrder";
             NotShallow = 44 "NotShallow";
+            Event(Section) = 45 "Section";
         }
     };
 }
@@ -170,7 +171,7 @@ impl What {
         }
     }
 
-    /// Its number in C, from 0 to 44.
+    /// Its number in C, from 0 to 45.
     pub fn number(self) -> u32
         ensures { result ≡ what_number self }
     {

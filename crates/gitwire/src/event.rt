@@ -23,7 +23,7 @@ pub struct GitwireEvent {
     pub offset: u64,
     /// How many digits the object's name has: none if there is no object, as for an unborn reference.
     pub id_length: usize,
-    /// How many bytes the name has: that of a reference, or the key of a capability.
+    /// How many bytes the name has: that of a reference or of a section, or the key of a capability.
     pub name_length: usize,
     /// How many bytes the text has: the value of a capability, the target of a symbolic reference, or bytes of the pack or
     /// the progress.

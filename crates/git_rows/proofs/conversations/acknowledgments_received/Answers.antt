@@ -6,7 +6,7 @@ use Rattle.git_rows.proofs.TextsByComputing.{differ, no_error_by}
 use Rattle.git_rows.proofs.conversations.acknowledgments_received.Goals as goal
 
 pub returns-clause-header : goal.returns-clause-header
-returns-clause-header c = gives_at _ _ _ _ _ _ refl (record { no_error = no_error_by (codes "acknowledgments") refl; conveys = refl })
+returns-clause-header c = gives_at _ _ _ _ _ _ refl (record { no_error = no_error_by (codes "acknowledgments") refl; conveys = (refl, refl) })
 
 pub returns-clause-none : goal.returns-clause-none
 returns-clause-none c = gives_at _ _ _ _ _ _ refl (record { no_error = no_error_by (codes "NAK") refl; conveys = (refl, refl) })

@@ -6,8 +6,9 @@ use Rattle.git_pkt.specs.Splits.{Given, Splits}
 use Rattle.git_pkt.proofs.Spelling.{none_begins_nothing, none_begins_partial}
 use Rattle.git_msg.specs.WrittenRequest.{text_line}
 use Rattle.git_client.specs.Conversation.{GiveAll, GivesAt, HasEvents}
-use Rattle.git_client.specs.Events.{EventValue, ended, offered, pack, progress}
+use Rattle.git_client.specs.Events.{EventValue, ended, offered, pack, progress, section}
 use Rattle.git_client.specs.Packs.{HasPack}
+use Rattle.git_client.specs.declared.sections.Section.TheVariants.{Packfile}
 use Rattle.git_client.proofs.Determined.{one_event_list}
 use Rattle.git_client.proofs.Packs.{one_pack}
 use Rattle.git_rows.specs.Worked.{at}
@@ -26,15 +27,15 @@ abbrev begun : ℕ → List Given → List Given
 begun band more =
     at 0 (text_line (codes "version 2")) ∷ at 14 flush ∷ at 18 (text_line (codes "packfile")) ∷ at 31 (payload (band ∷ codes "A")) ∷ more
 
-gives_header : GivesAt terms asked_fetch offered_before (text_line (codes "packfile")) []
-gives_header = gives_at terms asked_fetch offered_before (text_line (codes "packfile")) [] _ refl
-    (record { no_error = no_error_by (codes "packfile") refl; conveys = refl })
+gives_header : GivesAt terms asked_fetch offered_before (text_line (codes "packfile")) (section Packfile ∷ [])
+gives_header = gives_at terms asked_fetch offered_before (text_line (codes "packfile")) (section Packfile ∷ []) _ refl
+    (record { no_error = no_error_by (codes "packfile") refl; conveys = (refl, refl) })
 
 gives_pack : (more : List Given) (later : List EventValue)
     → GiveAll terms asked_fetch (payload (1 ∷ codes "A") ∷ after_header (codes "packfile")) more later
-    → GiveAll terms asked_fetch [] (begun 1 more) (offered ∷ pack 65 ∷ later)
-gives_pack more later h = offer_then asked_fetch (at 18 (text_line (codes "packfile")) ∷ at 31 (payload (1 ∷ codes "A")) ∷ more) (pack 65 ∷ later) (
-  [],
+    → GiveAll terms asked_fetch [] (begun 1 more) (offered ∷ section Packfile ∷ pack 65 ∷ later)
+gives_pack more later h = offer_then asked_fetch (at 18 (text_line (codes "packfile")) ∷ at 31 (payload (1 ∷ codes "A")) ∷ more) (section Packfile ∷ pack 65 ∷ later) (
+  section Packfile ∷ [],
   pack 65 ∷ later,
   refl,
   gives_header,
@@ -49,9 +50,9 @@ gives_pack more later h = offer_then asked_fetch (at 18 (text_line (codes "packf
 
 gives_progress : (more : List Given) (later : List EventValue)
     → GiveAll terms asked_fetch (payload (2 ∷ codes "A") ∷ after_header (codes "packfile")) more later
-    → GiveAll terms asked_fetch [] (begun 2 more) (offered ∷ progress 65 ∷ later)
-gives_progress more later h = offer_then asked_fetch (at 18 (text_line (codes "packfile")) ∷ at 31 (payload (2 ∷ codes "A")) ∷ more) (progress 65 ∷ later) (
-  [],
+    → GiveAll terms asked_fetch [] (begun 2 more) (offered ∷ section Packfile ∷ progress 65 ∷ later)
+gives_progress more later h = offer_then asked_fetch (at 18 (text_line (codes "packfile")) ∷ at 31 (payload (2 ∷ codes "A")) ∷ more) (section Packfile ∷ progress 65 ∷ later) (
+  section Packfile ∷ [],
   progress 65 ∷ later,
   refl,
   gives_header,
@@ -85,11 +86,11 @@ open_splits : Splits 0 (pack_bytes 1 rest) (begun 1 []) rest
 unfolding digit_value digits_value lower_digit
 open_splits = splits_written 0 (packets 1 []) rest refl (none_begins_partial rest (omega arith) (omega arith))
 
-open_events : HasEvents terms asked_fetch (pack_bytes 1 rest) (offered ∷ pack 65 ∷ pack 66 ∷ [])
+open_events : HasEvents terms asked_fetch (pack_bytes 1 rest) (offered ∷ section Packfile ∷ pack 65 ∷ pack 66 ∷ [])
 unfolding digit_value digits_value
 open_events = record {
   clean = begun 1 [];
-  whole = offered ∷ pack 65 ∷ [];
+  whole = offered ∷ section Packfile ∷ pack 65 ∷ [];
   opened = pack 66 ∷ [];
   sounds = record { given = begun 1 []; rest = rest; more = []; splits = open_splits; cut = refl; gives = gives_pack [] [] refl; stops = tt };
   of_rest = inl (open_by rest refl, refl);
@@ -101,7 +102,7 @@ whole_pack = record {
   clean = begun 1 (at 37 flush ∷ []);
   more = [];
   rest = [];
-  events = offered ∷ pack 65 ∷ ended ∷ [];
+  events = offered ∷ section Packfile ∷ pack 65 ∷ ended ∷ [];
   opened = [];
   splits = whole_splits 1;
   gives = gives_pack (at 37 flush ∷ []) (ended ∷ []) (gives_end 1);
@@ -115,7 +116,7 @@ no_pack = record {
   clean = begun 2 (at 37 flush ∷ []);
   more = [];
   rest = [];
-  events = offered ∷ progress 65 ∷ ended ∷ [];
+  events = offered ∷ section Packfile ∷ progress 65 ∷ ended ∷ [];
   opened = [];
   splits = whole_splits 2;
   gives = gives_progress (at 37 flush ∷ []) (ended ∷ []) (gives_end 2);
@@ -145,7 +146,7 @@ returns-clause-bytes_of_an_open_packet c = record {
   clean = begun 1 [];
   more = [];
   rest = rest;
-  events = offered ∷ pack 65 ∷ [];
+  events = offered ∷ section Packfile ∷ pack 65 ∷ [];
   opened = codes "B";
   splits = open_splits;
   gives = gives_pack [] [] refl;
@@ -167,5 +168,7 @@ returns-clause-not_the_progress c = λ h.
 
 pub returns-clause-not_less_of_an_open_packet : goal.returns-clause-not_less_of_an_open_packet
 returns-clause-not_less_of_an_open_packet c = λ h.
-    let same : offered ∷ pack 65 ∷ [] ≡ offered ∷ pack 65 ∷ pack 66 ∷ [] = one_event_list terms asked_fetch (pack_bytes 1 rest) _ _ h open_events in
+    let less = offered ∷ section Packfile ∷ pack 65 ∷ [] in
+    let all = offered ∷ section Packfile ∷ pack 65 ∷ pack 66 ∷ [] in
+    let same : less ≡ all = one_event_list terms asked_fetch (pack_bytes 1 rest) less all h open_events in
     cc
