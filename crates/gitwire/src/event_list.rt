@@ -107,8 +107,9 @@ impl Extent {
 }
 
 /// One call of `feed`, on the other bytes of the chunk: how far that came, or what is reported if there is no event. The event is shown at its place in
-/// the array, and its texts are written to the buffer. A client of any format chooses it first.
-#[inline(always)]
+/// the array, and its texts are written to the buffer. A client of any format chooses it first. This is a call of its own, so that the loop over the
+/// packets of a pack has the registers.
+#[inline(never)]
 fn next(
     client: &mut Client<Global>,
     chunk: &[u8],
@@ -147,7 +148,7 @@ fn next(
     }
 }
 
-/// The same, if the other bytes begin with all of a packet whose bytes pass: no more is done for it. Otherwise nothing changes.
+/// The same, if the other bytes begin with all of a packet whose bytes pass: its event is the one that `next` would show. Otherwise nothing changes.
 #[inline(always)]
 fn pass_next(
     client: &mut Client<Global>,
