@@ -2,7 +2,7 @@ use Rattle.std.proofs.Common.{arith, ◌≡◌, ◌∙◌, ◌<◌, ◌+◌, ◌
 use Rattle.git_pkt.specs.Packets.{longest_payload}
 use Rattle.gitwire.specs.declared.answer.GitwireAnswer.{GitwireAnswer}
 use Rattle.gitwire.specs.declared.event_list.Extent.{Extent}
-use Rattle.gitwire.proofs.ListedEvents.{end_within, listed_more, nothing_listed, paused_full, paused_turn, some_listed, stopped, stopped_none}
+use Rattle.gitwire.proofs.ListedEvents.{end_within, listed_more, listed_still, nothing_listed, paused_full, paused_turn, some_listed, stopped, stopped_none}
 use Rattle.gitwire.proofs.event_list.fill_events.Goals as goal
 use Rattle.gitwire.proofs.event_list.fill_events.Goals.{then-loop-so_far-test+else-buffer-so_far-ge-LONGEST_PARTS, else-loop-so_far-test}
 
@@ -24,48 +24,74 @@ next-requires-clause-place c = omega (arith, c.loop-so_far.invariant.same_places
 pub returns-then-can_ask : goal.returns-then-can_ask
 returns-then-can_ask c =
     let before = c.loop-so_far.invariant in
+    let still = c.in_default.ensures in
     let place : c.loop-so_far.so_far.count < length c.args.events.now = omega (arith, before.same_places, c.loop-so_far-test.true) in
     let gives = c.in-Ok.ensures in
     let further = c.in-Ok.further in
     let counts = ap (λ (e : Extent). e.count) gives.further_is in
+    let listed = listed_still c.args.client.now _ c.pass_next.new.client _ _ _ _ _ _ _ _ _ _ before.so_far still.0 still.1 still.2 in
     let more =
-    listed_more c.args.client.now c.loop-so_far.client c.next.new.client c.args.chunk.now c.args.events.now c.args.buffer.now c.loop-so_far.so_far.used
-    c.loop-so_far.so_far.count c.loop-so_far.so_far.texts c.loop-so_far.events c.next.new.events c.loop-so_far.buffer c.next.new.buffer further
-    before.so_far place gives in
+    listed_more c.args.client.now c.pass_next.new.client c.next.new.client c.args.chunk.now c.args.events.now c.args.buffer.now c.loop-so_far.so_far.used
+    c.loop-so_far.so_far.count c.loop-so_far.so_far.texts c.pass_next.new.events c.next.new.events c.pass_next.new.buffer c.next.new.buffer further
+    listed place gives in
     stopped c.args.client.now c.next.new.client c.args.chunk.now c.args.events.now c.args.buffer.now further.used
     further.count further.texts c.answer.result c.next.new.events c.next.new.buffer more
     (end_within _ _ _ _ _ _ _ _ _ _ _ gives)
     (omega (arith, place, counts))
-    (omega (arith, gives.texts_fit, before.same_buffer))
+    (omega (arith, gives.texts_fit, c.pass_next.auto.buffer, before.same_buffer))
     (ap (λ (a : GitwireAnswer). a.used) c.answer.ensures)
     (paused_turn _ _ _ _ _ _ _ (omega (arith, counts)) (sym c.can_ask.ensures.value ∙ c.if-can_ask.true) c.answer.ensures)
 
 pub loop-so_far-preserved : goal.loop-so_far-preserved
 loop-so_far-preserved c =
     let before = c.loop-so_far.invariant in
+    let still = c.in_default.ensures in
     let place : c.loop-so_far.so_far.count < length c.args.events.now = omega (arith, before.same_places, c.loop-so_far-test.true) in
     let gives = c.in-Ok.ensures in
     let counts = ap (λ (e : Extent). e.count) gives.further_is in
+    let listed = listed_still c.args.client.now _ c.pass_next.new.client _ _ _ _ _ _ _ _ _ _ before.so_far still.0 still.1 still.2 in
     record {
       within = end_within _ _ _ _ _ _ _ _ _ _ _ gives;
-      same_places = omega (arith, c.next.auto.events, before.same_places);
-      same_buffer = omega (arith, c.next.auto.buffer, before.same_buffer);
+      same_places = omega (arith, c.next.auto.events, c.pass_next.auto.events, before.same_places);
+      same_buffer = omega (arith, c.next.auto.buffer, c.pass_next.auto.buffer, before.same_buffer);
+      count_fits = omega (arith, place, counts);
+      texts_fit = omega (arith, gives.texts_fit, c.pass_next.auto.buffer, before.same_buffer);
+      so_far =
+          listed_more c.args.client.now c.pass_next.new.client c.next.new.client c.args.chunk.now c.args.events.now c.args.buffer.now
+          c.loop-so_far.so_far.used c.loop-so_far.so_far.count c.loop-so_far.so_far.texts c.pass_next.new.events c.next.new.events
+          c.pass_next.new.buffer c.next.new.buffer c.in-Ok.further listed place gives;
+      begins = λ none. absurd (omega (arith, none, counts));
+      turn = λ _. sym c.can_ask.ensures.value ∙ c.if-can_ask.false;
+    }
+
+pub loop-so_far-preserved-in-Some : goal.loop-so_far-preserved-in-Some
+loop-so_far-preserved-in-Some c =
+    let before = c.loop-so_far.invariant in
+    let place : c.loop-so_far.so_far.count < length c.args.events.now = omega (arith, before.same_places, c.loop-so_far-test.true) in
+    let (gives, waits) = c.in-Some.ensures in
+    let counts = ap (λ (e : Extent). e.count) gives.further_is in
+    record {
+      within = end_within _ _ _ _ _ _ _ _ _ _ _ gives;
+      same_places = omega (arith, c.pass_next.auto.events, before.same_places);
+      same_buffer = omega (arith, c.pass_next.auto.buffer, before.same_buffer);
       count_fits = omega (arith, place, counts);
       texts_fit = omega (arith, gives.texts_fit, before.same_buffer);
       so_far =
-          listed_more c.args.client.now c.loop-so_far.client c.next.new.client c.args.chunk.now c.args.events.now c.args.buffer.now c.loop-so_far.so_far.used
-          c.loop-so_far.so_far.count c.loop-so_far.so_far.texts c.loop-so_far.events c.next.new.events
-          c.loop-so_far.buffer c.next.new.buffer c.in-Ok.further before.so_far place gives;
+          listed_more c.args.client.now c.loop-so_far.client c.pass_next.new.client c.args.chunk.now c.args.events.now c.args.buffer.now
+          c.loop-so_far.so_far.used c.loop-so_far.so_far.count c.loop-so_far.so_far.texts c.loop-so_far.events c.pass_next.new.events
+          c.loop-so_far.buffer c.pass_next.new.buffer c.in-Some.end before.so_far place gives;
       begins = λ none. absurd (omega (arith, none, counts));
-      turn = λ _. sym c.can_ask.ensures.value ∙ c.if-can_ask.false;
+      turn = λ _. waits;
     }
 
 pub returns-in-Err : goal.returns-in-Err
 returns-in-Err c =
     let before = c.loop-so_far.invariant in
-    stopped_none c.args.client.now c.loop-so_far.client c.next.new.client c.args.chunk.now c.args.events.now c.args.buffer.now c.loop-so_far.so_far.used
-    c.loop-so_far.so_far.count c.loop-so_far.so_far.texts c.in-Err.answer c.loop-so_far.events c.next.new.events c.loop-so_far.buffer c.next.new.buffer
-    before.so_far before.count_fits before.texts_fit c.in-Err.ensures
+    let still = c.in_default.ensures in
+    let listed = listed_still c.args.client.now _ c.pass_next.new.client _ _ _ _ _ _ _ _ _ _ before.so_far still.0 still.1 still.2 in
+    stopped_none c.args.client.now c.pass_next.new.client c.next.new.client c.args.chunk.now c.args.events.now c.args.buffer.now c.loop-so_far.so_far.used
+    c.loop-so_far.so_far.count c.loop-so_far.so_far.texts c.in-Err.answer c.pass_next.new.events c.next.new.events c.pass_next.new.buffer
+    c.next.new.buffer listed before.count_fits before.texts_fit c.in-Err.ensures
 
 pub returns : goal.returns
 returns c =
