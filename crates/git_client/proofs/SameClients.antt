@@ -12,20 +12,28 @@ use Rattle.git_client.specs.declared.client.Client.{Client}
 module _ {A : Type 0} (s : Client A) where
   abbrev Sound : PacketReader → Type 0
   Sound reader = fault_in s.phase ≡ None → reader_fault_of reader ≡ None
+
   abbrev Shut : PacketReader → Type 0
   Shut reader = fault_in s.phase ≡ None → takes_packets s.phase ≡ false → is_open reader ≡ false
+
   abbrev Gathers : PacketReader → Type 0
   Gathers reader = takes_bands s.phase ≡ false → passes_of reader ≡ false
+
   abbrev Passes : PacketReader → Type 0
   Passes reader = takes_bands s.phase ≡ true → MayPass reader
+
   abbrev HasUnsent : Type 0
   HasUnsent = is_asking s.phase ≡ true → left_in s.phase s.request ≢ []
+
   abbrev Freed : Type 0
   Freed = is_asking s.phase ≡ false → s.request ≡ None
+
   abbrev Formats : Type 0
   Formats = ForSome s.request (λ q. request_format q ≡ s.format)
+
   abbrev Covered : Type 0
   Covered = ForSome s.request (λ q. stored_of q ≤ kept_of q)
+
   abbrev Within : Type 0
   Within = ForSome s.request (λ q. kept_of q ≤ limit_of q)
 

@@ -162,7 +162,7 @@ fn pass_next(
     requires suffices { so_far.texts + longest_payload ≤ length buffer.old }
     ensures { MatchOption result ((client.new ≡ client.old) × (events.new ≡ events.old) × (buffer.new ≡ buffer.old))
         (λ further. GivesEvent client.old chunk.now so_far.used so_far.count so_far.texts events.old buffer.old further events.new buffer.new client.new
-            × (can_ask client.new ≡ false)) }
+        × (can_ask client.new ≡ false)) }
 {
     let Some(arrived) = client.pass_whole(&chunk[so_far.used..], &mut Steps::new()) else {
         return None;

@@ -34,8 +34,7 @@ returns-in-Event c =
     let lies_there = subst (λ (got : ReceivedGot). LieInChunk got used after) c.in-Event.is there in
     let fits = subst (λ (got : ReceivedGot). all_parts_length (events_of got) ≤ longest_payload) c.in-Event.is c.in-Some.ensures.fits in
     let within = omega (arith, c.in-Some.ensures.used, rest_length c.args.chunk.now from, c.requires.within) in
-    let texts = omega (arith, c.list.ensures.texts, copied_fits c.in-Event.event, fits, c.requires.suffices) in
-    (
+    let texts = omega (arith, c.list.ensures.texts, copied_fits c.in-Event.event, fits, c.requires.suffices) in (
       record {
         event = c.in-Event.event;
         used = used;
