@@ -22,8 +22,8 @@ list-requires-clause-passed c =
     let part = take (length c.args.chunk.now - c.args.so_far.used) (drop c.args.so_far.used c.args.chunk.now) in
     omega (arith, passed_fits c.in-Event.event used part (subst (λ (got : ReceivedGot). LieInChunk got used part) c.in-Event.is there))
 
-pub returns-in-Event : goal.returns-in-Event
-returns-in-Event c =
+pub returns : goal.returns
+returns c =
     let old = c.args.client.now in
     let new = c.pass_whole.new.self in
     let used = c.in-Some.arrived.used in

@@ -8,7 +8,6 @@ use Rattle.git_client.specs.Machine.Turns.{events_at, values_of}
 use Rattle.git_client.specs.Machine.Client.{EndsAt, Feeds, ReceivesOn, Takes, LeavesAfter, StandsAfter, phase_of, reader_of, content_last, can_ask, wants_input}
 use Rattle.git_client.specs.declared.events.Event.{Event}
 use Rattle.git_client.specs.declared.events.Event.TheVariants.{Pack, Progress}
-use Rattle.git_client.specs.declared.events.Received.{Received}
 use Rattle.git_client.specs.declared.events.ReceivedGot.TheVariants.{Event as EventGot}
 use Rattle.git_client.specs.declared.phase.LineContent.{LineContent}
 use Rattle.git_client.specs.declared.phase.LineContent.TheVariants.{Nothing}
