@@ -70,6 +70,16 @@ lies_after event from used chunk lies = tt
 pub rest_length : (whole : List ℕ) (at : ℕ) → length (take (length whole - at) (drop at whole)) ≡ length whole - at
 rest_length whole at = ap length (take_rest whole at) ∙ length-drop at whole
 
+-- the bytes used up to the end of the call are bytes of the chunk
+pub ends_within : (chunk : List ℕ) (from used end : ℕ) → used ≤ length (take (length chunk - from) (drop from chunk)) → from ≤ length chunk
+    → end ≡ from + used → end ≤ length chunk
+ends_within chunk from used end some within is = omega (arith, some, rest_length chunk from, within, is)
+
+-- the texts of an event with its parts fit into the buffer
+pub texts_within : (texts size length_copied most now : ℕ) → now ≡ texts + length_copied → length_copied ≤ most → most ≤ longest_payload
+    → texts + longest_payload ≤ size → now ≤ size
+texts_within texts size length_copied most now is copied fits suffices = omega (arith, is, copied, fits, suffices)
+
 -- the bytes are written to the rest of a buffer
 pub placed_after : (buffer rest bytes : List ℕ) (at : ℕ) → at + length bytes ≤ length buffer
     → rest ≡ put_before bytes (take (length buffer - at) (drop at buffer))

@@ -9,19 +9,9 @@ use Rattle.gitwire.specs.ClientAnswers.{LieInChunk}
 use Rattle.gitwire.specs.EventLists.{EndsAs}
 use Rattle.gitwire.specs.declared.answer.GitwireAnswer.{GitwireAnswer}
 use Rattle.gitwire.specs.declared.answer.What.{What}
-use Rattle.gitwire.proofs.ListedEvents.{copied_fits, lies_after, passed_fits, rest_length}
+use Rattle.gitwire.proofs.ListedEvents.{copied_fits, ends_within, lies_after, passed_fits, texts_within}
 use Rattle.gitwire.proofs.ShownPlaces.{lies}
 use Rattle.gitwire.proofs.event_list.next.Goals as goal
-
--- the bytes used up to the end of the call are bytes of the chunk
-ends_within : (chunk : List ℕ) (from used end : ℕ) → used ≤ length (take (length chunk - from) (drop from chunk)) → from ≤ length chunk
-    → end ≡ from + used → end ≤ length chunk
-ends_within chunk from used end some within is = omega (arith, some, rest_length chunk from, within, is)
-
--- the texts of an event with its parts fit into the buffer
-texts_within : (texts size length_copied most now : ℕ) → now ≡ texts + length_copied → length_copied ≤ most → most ≤ longest_payload
-    → texts + longest_payload ≤ size → now ≤ size
-texts_within texts size length_copied most now is copied fits suffices = omega (arith, is, copied, fits, suffices)
 
 pub list-requires-clause-copied : goal.list-requires-clause-copied
 list-requires-clause-copied c =
