@@ -110,6 +110,7 @@ impl Passed {
 /// a request until the last packet of it was pulled.
 ///
 /// A program follows [`Client::pull`]: it sends the packets, reads if input is needed, and asks or leaves if it can.
+#[derive(Drop)]
 pub struct Client<A: Allocator + Copy> {
     pub(crate) reader: PacketReader,
     pub(crate) format: Format,
@@ -131,22 +132,6 @@ pub struct Client<A: Allocator + Copy> {
     ghost formats: { ForSome request (λ q. request_format q ≡ format) },
     ghost covered: { ForSome request (λ q. stored_of q ≤ kept_of q) },
     ghost within: { ForSome request (λ q. kept_of q ≤ limit_of q) },
-}
-
-// By a call: a derived drop is written out, and proved, wherever a value goes out of scope.
-impl<A: Allocator + Copy> Drop for Client<A> {
-    fn drop(self) {
-        let Client {
-            reader: _reader,
-            format: _format,
-            of_any_format: _of_any_format,
-            ending: _ending,
-            phase: _phase,
-            caps: _caps,
-            request: _request,
-            content: _content,
-        } = self;
-    }
 }
 
 impl<A: Allocator + Copy> Client<A> {

@@ -56,6 +56,7 @@ impl<A: Allocator + Copy> Phase<A> {
 }
 
 /// The server's end of a session over a store of the host's own.
+#[derive(Drop)]
 pub struct HostServer<A: Allocator + Copy> {
     alloc: A,
     offer: Offer,
@@ -65,20 +66,6 @@ pub struct HostServer<A: Allocator + Copy> {
     // The offset of the flush of the last request.
     flush: u64,
     phase: Phase<A>,
-}
-
-// By a call: a derived drop is written out, and proved, wherever a value goes out of scope.
-impl<A: Allocator + Copy> Drop for HostServer<A> {
-    fn drop(self) {
-        let HostServer {
-            alloc: _alloc,
-            offer: _offer,
-            limits: _limits,
-            stream: _stream,
-            flush: _flush,
-            phase: _phase,
-        } = self;
-    }
 }
 
 impl<A: Allocator + Copy> HostServer<A> {
