@@ -1,6 +1,6 @@
 -- The events that a packet gives, and the errors that refuse it, by its place.
-use Rattle.std.specs.Prelude.{◌≡◌, ◌≢◌, ◌⊎◌, ℕ, suc, ◌+◌, ◌==◌, ◌||◌, true, false, List, [], ◌∷◌, ◌++◌, length, sum_by, Option, Some, Result, Ok, Err, codes, map}
-use Rattle.std.specs.Prelude.{if◌then◌else◌}
+use Rattle.std.specs.Prelude.{◌≡◌, ◌≢◌, ◌⊎◌, ℕ, suc, ◌+◌, ◌==◌, ◌||◌, true, false, List, [], ◌∷◌, ◌++◌, length, sum_by, Option, Some, Result, Ok, Err}
+use Rattle.std.specs.Prelude.{codes, if◌then◌else◌, map}
 use Rattle.std.specs.Option.{option_map_or}
 use Rattle.git_names.specs.ObjectFormat.{digits_of}
 use Rattle.git_names.specs.ObjectName.{ObjectName, IsNoObjectName}

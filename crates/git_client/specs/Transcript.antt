@@ -6,7 +6,8 @@ use Rattle.git_msg.specs.Arguments.{name_of}
 use Rattle.git_msg.specs.Asked.{Asked, command_asked}
 use Rattle.git_msg.specs.declared.arguments.Command.{Command}
 use Rattle.git_msg.specs.References.{Ref, id_text, peeled_text}
-use Rattle.git_client.specs.Events.{EventValue, capability, offered, reference, section, ack, nak, ready, shallow, unshallow, wanted_ref, pack, progress, info, ended}
+use Rattle.git_client.specs.Events.{EventValue, capability, offered, reference, section, ack, nak, ready, shallow, unshallow, wanted_ref, pack, progress}
+use Rattle.git_client.specs.Events.{info, ended}
 
 -- a text that may be absent, after a word that comes before it
 abbrev pub shown_after : List ℕ → Option (List ℕ) → List ℕ

@@ -34,36 +34,38 @@ gives_header = gives_at terms asked_fetch offered_before (text_line (codes "pack
 gives_pack : (more : List Given) (later : List EventValue)
     → GiveAll terms asked_fetch (payload (1 ∷ codes "A") ∷ after_header (codes "packfile")) more later
     → GiveAll terms asked_fetch [] (begun 1 more) (offered ∷ section Packfile ∷ pack 65 ∷ later)
-gives_pack more later h = offer_then asked_fetch (at 18 (text_line (codes "packfile")) ∷ at 31 (payload (1 ∷ codes "A")) ∷ more) (section Packfile ∷ pack 65 ∷ later) (
-  section Packfile ∷ [],
-  pack 65 ∷ later,
-  refl,
-  gives_header,
-  (
-    pack 65 ∷ [],
-    later,
-    refl,
-    gives_at terms asked_fetch (after_header (codes "packfile")) (payload (1 ∷ codes "A")) (pack 65 ∷ []) _ refl refl,
-    h,
-  ),
-)
+gives_pack more later h =
+    offer_then asked_fetch (at 18 (text_line (codes "packfile")) ∷ at 31 (payload (1 ∷ codes "A")) ∷ more) (section Packfile ∷ pack 65 ∷ later) (
+      section Packfile ∷ [],
+      pack 65 ∷ later,
+      refl,
+      gives_header,
+      (
+        pack 65 ∷ [],
+        later,
+        refl,
+        gives_at terms asked_fetch (after_header (codes "packfile")) (payload (1 ∷ codes "A")) (pack 65 ∷ []) _ refl refl,
+        h,
+      ),
+    )
 
 gives_progress : (more : List Given) (later : List EventValue)
     → GiveAll terms asked_fetch (payload (2 ∷ codes "A") ∷ after_header (codes "packfile")) more later
     → GiveAll terms asked_fetch [] (begun 2 more) (offered ∷ section Packfile ∷ progress 65 ∷ later)
-gives_progress more later h = offer_then asked_fetch (at 18 (text_line (codes "packfile")) ∷ at 31 (payload (2 ∷ codes "A")) ∷ more) (section Packfile ∷ progress 65 ∷ later) (
-  section Packfile ∷ [],
-  progress 65 ∷ later,
-  refl,
-  gives_header,
-  (
-    progress 65 ∷ [],
-    later,
-    refl,
-    gives_at terms asked_fetch (after_header (codes "packfile")) (payload (2 ∷ codes "A")) (progress 65 ∷ []) _ refl refl,
-    h,
-  ),
-)
+gives_progress more later h =
+    offer_then asked_fetch (at 18 (text_line (codes "packfile")) ∷ at 31 (payload (2 ∷ codes "A")) ∷ more) (section Packfile ∷ progress 65 ∷ later) (
+      section Packfile ∷ [],
+      progress 65 ∷ later,
+      refl,
+      gives_header,
+      (
+        progress 65 ∷ [],
+        later,
+        refl,
+        gives_at terms asked_fetch (after_header (codes "packfile")) (payload (2 ∷ codes "A")) (progress 65 ∷ []) _ refl refl,
+        h,
+      ),
+    )
 
 gives_end : (band : ℕ) → GiveAll terms asked_fetch (payload (band ∷ codes "A") ∷ after_header (codes "packfile")) (at 37 flush ∷ []) (ended ∷ [])
 gives_end band = (
