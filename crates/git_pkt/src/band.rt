@@ -5,6 +5,7 @@ ghost use Rattle.std.specs.Io.{StartsWith};
 ghost use Rattle.arrayvec.specs.ArrayVec.{array_vec_len};
 ghost use Rattle.git_pkt.specs.Bands.{IsNoBand, band_packet, byte_of};
 ghost use Rattle.git_pkt.specs.Packets.{spelling_of, longest_payload};
+ghost use Rattle.git_pkt.specs.Passed.{band_in};
 
 use crate::fault::Kind;
 use crate::hold::{Hold, LONGEST_PACKET, append, put_at};
@@ -86,5 +87,16 @@ pub fn split_band(payload: &[u8]) -> Result<(Band, &[u8]), Kind>
         [2, bytes @ ..] => Ok((Band::Progress, bytes)),
         [3, bytes @ ..] => Ok((Band::Fatal, bytes)),
         _ => Err(Kind::BadBand),
+    }
+}
+
+/// The band of a packet that begins with these bytes, if its bytes pass.
+pub(crate) fn band_of(bytes: &[u8]) -> Option<Band>
+    ensures { result ≡ band_in (drop 4 bytes.now) }
+{
+    match bytes {
+        [_, _, _, _, 1, ..] => Some(Band::Pack),
+        [_, _, _, _, 2, ..] => Some(Band::Progress),
+        _ => None,
     }
 }

@@ -1,7 +1,8 @@
 //! How far one step of a reader over a chunk came.
 
-ghost use Rattle.std.specs.Prelude.{◌≡◌, ◌≤◌, length};
+ghost use Rattle.std.specs.Prelude.{◌≡◌, ◌+◌, ◌≤◌, ◌<◌, length};
 ghost use Rattle.git_pkt.specs.Machine.PassedOut.{HandsOut, HasPart};
+ghost use Rattle.git_pkt.specs.Packets.{longest_payload};
 
 use crate::band::Band;
 use crate::fault::Fault;
@@ -49,6 +50,19 @@ pub(crate) struct BandStep {
 }
 
 impl BandStep {
+    /// The step over all of a packet that has these bytes on its band: before them are its four digits and the band's byte.
+    #[inline(always)]
+    pub(crate) fn of_part(part: Passed) -> Self
+        requires { part.count < longest_payload }
+        ensures used { result.used ≡ part.count + 5 }
+        ensures progress { result.progress ≡ BandProgress.Part part }
+    {
+        BandStep {
+            used: part.count + 5,
+            progress: BandProgress::Part(part),
+        }
+    }
+
     /// What a call returns after this progress over the chunk, if no packet is in the hold.
     #[inline(always)]
     pub(crate) fn fed<'a>(self, chunk: &'a [u8]) -> BandFed<'a>

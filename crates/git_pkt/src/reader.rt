@@ -21,7 +21,7 @@ ghost use Rattle.std.specs.Prelude.{OnOk, IsTrue, ◌↔◌, ℕ, List};
 ghost use Rattle.std.specs.Borrow.{sem};
 ghost use Rattle.std.specs.Io.BufRead.{Rests};
 ghost use Rattle.git_names.specs.Steps.{TakesAtMost};
-ghost use Rattle.git_pkt.specs.Packets.{Spells, seen};
+ghost use Rattle.git_pkt.specs.Packets.{Spells, longest_payload, seen};
 ghost use Rattle.git_pkt.specs.Splits.{Given};
 ghost use Rattle.git_pkt.specs.declared.fault.Fault.{Fault};
 ghost use Rattle.git_pkt.specs.Faults.{last_position};
@@ -30,7 +30,7 @@ ghost use Rattle.git_pkt.specs.Machine.HeldPacket.{IsWhole, AnnouncesField};
 ghost use Rattle.git_pkt.specs.Machine.ReaderState.{IsGathered, IsPassing, gathers_in, held_in, left_in, passes_in};
 ghost use Rattle.git_pkt.specs.declared.fault.Kind.TheVariants.{Truncated};
 
-use crate::band::Band;
+use crate::band::{Band, band_of};
 use crate::digits::{Digits, read_digits};
 use crate::fault::{Fault, Kind};
 use crate::hold::{Hold, LONGEST_PACKET, place};
@@ -237,11 +237,7 @@ impl PacketReader {
         let Some(part) = self.pass_at_once(chunk, steps) else {
             return None;
         };
-        let step = BandStep {
-            used: part.count + 5,
-            progress: BandProgress::Part(part),
-        };
-        Some(step.fed(chunk))
+        Some(BandStep::of_part(part).fed(chunk))
     }
 
     /// The stream ends here. Between packets that is correct and changes nothing. If a packet is open, the stream is refused
@@ -331,10 +327,7 @@ impl PacketReader {
     {
         if !self.is_open() {
             if let Some(part) = self.pass_at_once(chunk, steps) {
-                return BandStep {
-                    used: part.count + 5,
-                    progress: BandProgress::Part(part),
-                };
+                return BandStep::of_part(part);
             }
         }
         self.steps_between(chunk, steps)
@@ -378,10 +371,7 @@ impl PacketReader {
     {
         if !self.is_open() {
             if let Some(part) = self.pass_at_once(chunk, steps) {
-                return BandStep {
-                    used: part.count + 5,
-                    progress: BandProgress::Part(part),
-                };
+                return BandStep::of_part(part);
             }
         }
         self.band_step(chunk, steps)
@@ -392,6 +382,7 @@ impl PacketReader {
     fn pass_at_once(&mut self, chunk: &[u8], steps: &mut Steps) -> Option<Passed>
         requires sound { fault_of self.old ≡ None }
         requires between { is_open self.old ≡ false }
+        ensures fits { IfSome result (λ part. part.count < longest_payload) }
         ensures within { IfSome result (λ part. part.count + 5 ≤ length chunk.now) }
         ensures moves { MatchOption result (self.new ≡ self.old)
             (λ part. BandMoves self.old chunk.now (part.count + 5) (BandProgress.Part part) self.new) }
@@ -804,16 +795,5 @@ fn field_fault(field: usize) -> Option<Kind>
         3 => Some(Kind::BadLength),
         0..=65_520 => None,
         _ => Some(Kind::TooLong),
-    }
-}
-
-/// The band of a packet that begins with these bytes, if its bytes pass.
-fn band_of(bytes: &[u8]) -> Option<Band>
-    ensures { result ≡ band_in (drop 4 bytes.now) }
-{
-    match bytes {
-        [_, _, _, _, 1, ..] => Some(Band::Pack),
-        [_, _, _, _, 2, ..] => Some(Band::Progress),
-        _ => None,
     }
 }
