@@ -173,41 +173,70 @@ gitwire_result gitwire_request_empty(gitwire_request **request)
 	MAKE(request, GITWIRE_DONE);
 }
 
-gitwire_result gitwire_server_init(gitwire_server *server, struct handle *repository, uint32_t limit, bool advertise);
+gitwire_result gitwire_server_init(gitwire_server *server, struct handle *repository, uint32_t limit, bool advertise, const char *agent,
+	size_t agent_length);
 
 /* Gives a server a share of the repository. The handle, whose memory is never constant, is the same afterwards. */
-static gitwire_result init_server(gitwire_server *server, const gitwire_repository *repository, uint32_t limit, bool advertise)
+static gitwire_result init_server(gitwire_server *server, const gitwire_repository *repository, uint32_t limit, bool advertise,
+	const char *agent, size_t agent_length)
 {
 	gitwire_repository *shared = (gitwire_repository *)repository;
 	gitwire_result result;
 
 	pthread_mutex_lock(&shared->lock);
-	result = gitwire_server_init(server, &shared->handle, limit, advertise);
+	result = gitwire_server_init(server, &shared->handle, limit, advertise, agent, agent_length);
 	pthread_mutex_unlock(&shared->lock);
 	return result;
 }
 
+gitwire_result gitwire_server_new_named(gitwire_server **server, const gitwire_repository *repository, uint32_t limit, bool advertise,
+	const char *agent, size_t agent_length)
+{
+	MAKE(server, init_server(made, repository, limit, advertise, agent, agent_length));
+}
+
+/* An empty name of an agent is the library's own. */
 gitwire_result gitwire_server_new(gitwire_server **server, const gitwire_repository *repository, uint32_t limit, bool advertise)
 {
-	MAKE(server, init_server(made, repository, limit, advertise));
+	return gitwire_server_new_named(server, repository, limit, advertise, "", 0);
 }
 
-gitwire_result gitwire_host_init(gitwire_host *host, gitwire_format format, uint32_t features, uint32_t limit, bool advertise);
+gitwire_result gitwire_host_init(gitwire_host *host, gitwire_format format, uint32_t features, uint32_t limit, bool advertise,
+	const char *agent, size_t agent_length);
+gitwire_result gitwire_host_new_named(gitwire_host **host, gitwire_format format, uint32_t features, uint32_t limit, bool advertise,
+	const char *agent, size_t agent_length)
+{
+	MAKE(host, gitwire_host_init(made, format, features, limit, advertise, agent, agent_length));
+}
+
 gitwire_result gitwire_host_new(gitwire_host **host, gitwire_format format, uint32_t features, uint32_t limit, bool advertise)
 {
-	MAKE(host, gitwire_host_init(made, format, features, limit, advertise));
+	return gitwire_host_new_named(host, format, features, limit, advertise, "", 0);
 }
 
-gitwire_result gitwire_client_init(gitwire_client *client, gitwire_format format, gitwire_ending ending);
+gitwire_result gitwire_client_init(gitwire_client *client, gitwire_format format, gitwire_ending ending, const char *agent,
+	size_t agent_length);
+gitwire_result gitwire_client_new_named(gitwire_client **client, gitwire_format format, gitwire_ending ending, const char *agent,
+	size_t agent_length)
+{
+	MAKE(client, gitwire_client_init(made, format, ending, agent, agent_length));
+}
+
 gitwire_result gitwire_client_new(gitwire_client **client, gitwire_format format, gitwire_ending ending)
 {
-	MAKE(client, gitwire_client_init(made, format, ending));
+	return gitwire_client_new_named(client, format, ending, "", 0);
 }
 
 gitwire_result gitwire_writer_init(gitwire_writer *writer);
 gitwire_result gitwire_writer_new(gitwire_writer **writer)
 {
 	MAKE(writer, gitwire_writer_init(made));
+}
+
+gitwire_answer gitwire_put_advertisement(gitwire_writer *writer, gitwire_format format, uint32_t features, uint8_t *buffer,
+	size_t buffer_length)
+{
+	return gitwire_put_advertisement_named(writer, format, features, "", 0, buffer, buffer_length);
 }
 
 /* Memory for a repository's handle with nothing in it, and its lock; NULL if there is no memory. */

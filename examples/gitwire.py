@@ -71,7 +71,7 @@ def load_library():
         "request_command": (c_uint32, [handle]),
         "request_empty": (c_uint32, [place]),
         "request_free": (None, [handle]),
-        "client_new": (c_uint32, [place, c_uint32, c_uint32]),
+        "client_new_named": (c_uint32, [place, c_uint32, c_uint32, *text]),
         "client_events": (Answer, [handle, *text, *text, *text]),
         "client_pull": (Answer, [handle, *text]),
         "client_ask": (Answer, [handle, handle]),
@@ -167,15 +167,15 @@ def requests_of(stream, format_=SHA1):
 
 
 class Client:
-    """The client's side of a conversation."""
+    """The client's side of a conversation. It names this agent; b"" is the library's own."""
 
-    def __init__(self, format_=SHA1, ending=ENDS_BY_FLUSH):
+    def __init__(self, format_=SHA1, ending=ENDS_BY_FLUSH, agent=b""):
         self.handle = c_void_p()
         self.packet = create_string_buffer(PACKET_SIZE)
         self.buffer = create_string_buffer(2 * PAYLOAD_SIZE + CHUNK)
         self.listed = (Listed * EVENTS)()
         self.used = 0
-        made(LIBRARY.gitwire_client_new(byref(self.handle), format_, ending))
+        made(LIBRARY.gitwire_client_new_named(byref(self.handle), format_, ending, agent, len(agent)))
 
     def __del__(self):
         LIBRARY.gitwire_client_free(self.handle)

@@ -6,7 +6,7 @@
  * The library reads the requests and makes the answers; what it asks for is looked up by commands of Git: references by `git show-ref` or
  * `git for-each-ref` or both, objects by one `git cat-file --batch-command` that runs as long as the session, the ends of a shallow history
  * by `git rev-list`, and packs by `git pack-objects --revs --stdout`, whose bytes are passed on as they come. If one of them fails, the client
- * receives an error. It speaks version 2 alone, whatever version its client asks for.
+ * receives an error. It speaks version 2 alone, whatever version its client asks for. Its agent is that of GIT_USER_AGENT, or the library's own.
  *
  *     git clone --upload-pack=.../upload-pack "file://$PWD/REPOSITORY" CLONE
  */
@@ -451,9 +451,26 @@ static void report_no_repository(const char *name)
 	fputs("' does not appear to be a git repository\n", stderr);
 }
 
+/* The agent that GIT_USER_AGENT names for Git's own programs too: as there, the ends are trimmed, and a byte that is not printable becomes a dot.
+ * What is too long is cut. */
+static void read_agent(char agent[GITWIRE_AGENT_SIZE + 1])
+{
+	static const char blanks[] = " \t\n\v\f\r";
+	const char *named = getenv("GIT_USER_AGENT");
+	size_t length;
+
+	snprintf(agent, GITWIRE_AGENT_SIZE + 1, "%s", named == NULL ? "" : named + strspn(named, blanks));
+	for (length = strlen(agent); length > 0 && strchr(blanks, agent[length - 1]) != NULL; length--)
+		agent[length - 1] = 0;
+	for (; *agent != 0; agent++)
+		if (*agent <= ' ' || *agent >= 127)
+			*agent = '.';
+}
+
 int main(int count, char **words)
 {
 	bool strict = false, stateless = false, advertise = false;
+	char agent[GITWIRE_AGENT_SIZE + 1];
 	gitwire_format format;
 	int at = 1;
 
@@ -483,7 +500,8 @@ int main(int count, char **words)
 		return 128;
 	}
 	read_space();
-	if (gitwire_host_new(&host, format, features(), GITWIRE_DEFAULT_LIMIT, advertise || !stateless) != GITWIRE_DONE)
+	read_agent(agent);
+	if (gitwire_host_new_named(&host, format, features(), GITWIRE_DEFAULT_LIMIT, advertise || !stateless, agent, strlen(agent)) != GITWIRE_DONE)
 		stop("no memory");
 	return serve(advertise ? 0 : stateless ? 1 : SIZE_MAX);
 }

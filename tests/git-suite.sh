@@ -35,11 +35,12 @@ build() {
 
 put_in_place() {
 	git=$suite/git
+	agent=git/$("$git/git" version | cut -d ' ' -f 3)
 	rm -f "$git/git-upload-pack"
 	cat > "$git/git-upload-pack" <<-END
 	#!/bin/sh
 	case ":\${GIT_PROTOCOL-}:" in
-	*:version=2:*) exec "$suite/upload-pack" "\$@" ;;
+	*:version=2:*) GIT_USER_AGENT="\${GIT_USER_AGENT-$agent}" exec "$suite/upload-pack" "\$@" ;;
 	esac
 	exec "$git/git" upload-pack-of-git "\$@"
 	END
@@ -53,7 +54,7 @@ put_in_place() {
 	case "\${1-}" in
 	--advertise-capabilities) set -- --http-backend-info-refs ;;
 	esac
-	PATH="$git:\$PATH" exec "$suite/upload-pack" "\$@" "\$folder"
+	PATH="$git:\$PATH" GIT_USER_AGENT="\${GIT_USER_AGENT-$agent}" exec "$suite/upload-pack" "\$@" "\$folder"
 	END
 	chmod 755 "$git/git-upload-pack" "$git/bin-wrappers/test-tool"
 }

@@ -1,5 +1,6 @@
 /*
- * Calls each function of the library that writes a packet or a text, and the reader of greetings, as library_calls.c does with the others.
+ * Calls each function of the library that writes a packet or a text, the reader of greetings, and the calls that take the name of an agent, as
+ * library_calls.c does with the others.
  */
 #include "library_calls.h"
 
@@ -241,6 +242,109 @@ static void try_greetings(void)
 	EXPECT(greets_nobody(PARTS("git-upload-pack /a\0\0version=2")) && greets_nobody(PARTS("Git-upload-pack /a\0")));
 }
 
+/* The longest name of an agent. */
+#define LONGEST_AGENT "aaaaaaaaaaaaaaaaaaaaaaaaaaaaaaaaaaaaaaaaaaaaaaaaaaaaaaaaaaaaaaa"
+
+static void try_agents_of_writers(void)
+{
+	static const char *const wrong[] = { LONGEST_AGENT "a", "two words", "\n", "git2/1\n", "\177", "caf\303\251" };
+	uint8_t named[GITWIRE_ADVERTISEMENT_SIZE];
+
+	EXPECT(wrote(gitwire_put_advertisement_named(writer, GITWIRE_SHA1, 0, TEXT("mirror/3.2"), BUFFER),
+		"000eversion 2\n" "0015agent=mirror/3.2\n" "000cls-refs\n" "000afetch\n" "0017object-format=sha1\n" "0000"));
+	EXPECT(wrote(gitwire_put_advertisement_named(writer, GITWIRE_SHA1, 0, NULL, 0, BUFFER),
+		"000eversion 2\n" "0011agent=git2/1\n" "000cls-refs\n" "000afetch\n" "0017object-format=sha1\n" "0000"));
+	EXPECT(wrote(gitwire_put_advertisement_named(writer, GITWIRE_SHA1, 0, TEXT("!~"), BUFFER),
+		"000eversion 2\n" "000dagent=!~\n" "000cls-refs\n" "000afetch\n" "0017object-format=sha1\n" "0000"));
+	EXPECT(gitwire_put_advertisement_named(writer, GITWIRE_SHA256, GITWIRE_FEATURES_ALL, TEXT(LONGEST_AGENT), named, sizeof named).kind == GITWIRE_DONE);
+	EXPECT(memcmp(named + 14, "004aagent=" LONGEST_AGENT "\n", 74) == 0);
+	for (size_t i = 0; i < sizeof wrong / sizeof *wrong; i++)
+		EXPECT(gitwire_put_advertisement_named(writer, GITWIRE_SHA1, 0, TEXT(wrong[i]), BUFFER).kind == GITWIRE_BAD_VALUE);
+}
+
+/* Whether the packet after these is the line of this agent; `next` pulls one into the buffer. */
+static bool names(gitwire_result (*next)(void *handle), void *handle, int before, const char *line)
+{
+	bool is_it = true;
+
+	for (int i = 0; i <= before; i++)
+		is_it = next(handle) == GITWIRE_PACKET && is_it;
+	is_it = is_it && memcmp(buffer, line, strlen(line)) == 0;
+	memset(buffer, '#', sizeof buffer);
+	return is_it;
+}
+
+static gitwire_result next_of_server(void *server)
+{
+	return gitwire_server_pull(server, BUFFER).kind;
+}
+
+static gitwire_result next_of_client(void *client)
+{
+	return gitwire_client_pull(client, BUFFER).kind;
+}
+
+static void try_agents_of_servers(void)
+{
+	gitwire_repository *repository = NULL;
+	gitwire_server *server = NULL;
+	gitwire_host *host = NULL;
+
+	EXPECT(gitwire_repository_new(&repository, TEXT("format sha1\n"), NULL, 0).kind == GITWIRE_DONE);
+	EXPECT(gitwire_server_new_named(&server, repository, 0, true, TEXT("two words")) == GITWIRE_BAD_VALUE && server == NULL);
+	EXPECT(gitwire_server_new_named(&server, repository, GITWIRE_MAXIMUM_LIMIT + 1, true, TEXT("mirror/3.2")) == GITWIRE_BAD_VALUE);
+	EXPECT(gitwire_server_new_named(&server, repository, 0, true, TEXT("mirror/3.2")) == GITWIRE_DONE);
+	gitwire_repository_free(repository);
+	EXPECT(names(next_of_server, server, 1, "0015agent=mirror/3.2\n"));
+	gitwire_server_free(server);
+
+	EXPECT(gitwire_host_new_named(&host, GITWIRE_SHA1, 0, 0, true, TEXT("two words")) == GITWIRE_BAD_VALUE && host == NULL);
+	EXPECT(gitwire_host_new_named(&host, 0, 0, 0, true, TEXT("mirror/3.2")) == GITWIRE_BAD_VALUE);
+	EXPECT(gitwire_host_new_named(&host, GITWIRE_SHA1, 0, 0, true, TEXT("mirror/3.2")) == GITWIRE_DONE);
+	EXPECT(gitwire_host_pull(host, BUFFER).length == 84 && memcmp(buffer + 14, "0015agent=mirror/3.2\n", 21) == 0);
+	memset(buffer, '#', sizeof buffer);
+	gitwire_host_free(host);
+}
+
+/* Has the client ask for the references of a server with these capabilities. */
+static gitwire_client *client_after(gitwire_format format, const char *agent, const char *capabilities)
+{
+	static uint8_t parts[GITWIRE_PAYLOAD_SIZE];
+	gitwire_client *client = NULL;
+	gitwire_request *request = NULL;
+	size_t used = 0;
+
+	EXPECT(gitwire_client_new_named(&client, format, GITWIRE_ENDS_BY_FLUSH, TEXT(agent)) == GITWIRE_DONE);
+	while (used < strlen(capabilities))
+		used += gitwire_client_feed(client, BYTES(capabilities + used), parts, sizeof parts).used;
+	EXPECT(gitwire_request_new(&request, GITWIRE_LS_REFS, GITWIRE_SHA1, 0) == GITWIRE_DONE);
+	EXPECT(gitwire_client_ask(client, request).kind == GITWIRE_DONE);
+	gitwire_request_free(request);
+	return client;
+}
+
+static void try_agents_of_clients(void)
+{
+	static const char named[] = "000eversion 2\n" "0010agent=other\n" "000cls-refs\n" "0000";
+	static const char nameless[] = "000eversion 2\n" "000cls-refs\n" "0000";
+	gitwire_client *client = NULL;
+
+	EXPECT(gitwire_client_new_named(&client, GITWIRE_SHA1, GITWIRE_ENDS_BY_FLUSH, TEXT("two words")) == GITWIRE_BAD_VALUE && client == NULL);
+	EXPECT(gitwire_client_new_named(&client, 0, GITWIRE_ENDS_BY_FLUSH, TEXT("mirror/3.2")) == GITWIRE_BAD_VALUE);
+	client = client_after(GITWIRE_SHA1, "mirror/3.2", named);
+	EXPECT(names(next_of_client, client, 1, "0015agent=mirror/3.2\n"));
+	gitwire_client_free(client);
+	client = client_after(GITWIRE_FORMAT_ANY, "mirror/3.2", named);
+	EXPECT(names(next_of_client, client, 1, "0015agent=mirror/3.2\n"));
+	gitwire_client_free(client);
+	client = client_after(GITWIRE_SHA1, "", named);
+	EXPECT(names(next_of_client, client, 1, "0011agent=git2/1\n"));
+	gitwire_client_free(client);
+	client = client_after(GITWIRE_SHA1, "mirror/3.2", nameless); /* where the server names none */
+	EXPECT(names(next_of_client, client, 1, "0001"));
+	gitwire_client_free(client);
+}
+
 static void *try_all(void *nothing)
 {
 	memset(buffer, '#', sizeof buffer);
@@ -254,6 +358,9 @@ static void *try_all(void *nothing)
 	try_names_of_kinds();
 	try_escapes();
 	try_greetings();
+	try_agents_of_writers();
+	try_agents_of_servers();
+	try_agents_of_clients();
 	gitwire_writer_free(writer);
 	gitwire_writer_free(NULL);
 	return nothing;

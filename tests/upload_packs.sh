@@ -342,6 +342,20 @@ case_upload_pack_negotiates_alone() {
     negotiates_alike empty-sha1
 }
 
+# The agent is that of the environment, as Git names it: without blanks at its ends, and with a dot for a byte that is not printable.
+case_upload_pack_names_the_agent_of_the_environment() {
+    local name
+    for name in mirror/3.2 ' two words ' $'caf\303\251\t!\n' "$(printf 'a%.0s' {1..63})"; do
+        GIT_USER_AGENT=$name run "$uploading" --http-backend-info-refs history-sha1
+        tr '\0' '\n' < out | sed -n 's/^....agent=//p' > written
+        GIT_USER_AGENT=$name GIT_PROTOCOL=version=2 run git upload-pack --http-backend-info-refs history-sha1
+        tr '\0' '\n' < out | sed -n 's/^....agent=//p' > wanted
+        expect_same "the agent $name" wanted written
+    done
+    GIT_USER_AGENT=$(printf 'a%.0s' {1..64}) run "$uploading" --http-backend-info-refs history-sha1
+    expect_line 'a long agent' "004aagent=$(printf 'a%.0s' {1..63})" out
+}
+
 # A server for each request, as over HTTP.
 case_upload_pack_serves_without_a_state() {
     write_stateless

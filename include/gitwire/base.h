@@ -54,7 +54,8 @@ const char *gitwire_version(void);
 #define GITWIRE_FAULT_TEXT_SIZE 64          /* the text that gitwire_fault_text writes */
 #define GITWIRE_KIND_NAME_SIZE 32           /* the name that gitwire_kind_name writes */
 #define GITWIRE_ESCAPE_SIZE 4               /* the escape that gitwire_escape writes for one byte */
-#define GITWIRE_ADVERTISEMENT_SIZE 200      /* the packets that gitwire_put_advertisement writes */
+#define GITWIRE_AGENT_SIZE 63               /* the name of an agent */
+#define GITWIRE_ADVERTISEMENT_SIZE 257      /* the packets that gitwire_put_advertisement writes */
 
 /* A buffer for the texts of all events of a chunk of this length, in gitwire_client_events. */
 #define GITWIRE_EVENTS_SIZE(chunk_length) (2 * GITWIRE_PAYLOAD_SIZE + (chunk_length))

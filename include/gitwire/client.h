@@ -31,6 +31,15 @@ GITWIRE_LOOKED_AT
 gitwire_result gitwire_client_new(gitwire_client **client, gitwire_format format, gitwire_ending ending);
 
 /*
+ * The same, but the client names this agent in each request to a server that names its own: 1 to 63 printable ASCII characters, none
+ * of them a space, as `mirror/3.2`. gitwire_client_new names the library's own agent, `git2/1`, and so does an empty text.
+ * BAD_VALUE for another text.
+ */
+GITWIRE_LOOKED_AT
+gitwire_result gitwire_client_new_named(gitwire_client **client, gitwire_format format, gitwire_ending ending, const char *agent,
+	size_t agent_length);
+
+/*
  * One event. Its parts lie one after another: id, name, text, peeled, of these lengths, 0 for a missing part. For PACK and
  * PROGRESS that is in the chunk, and for other events in the buffer, at `offset` from the beginning of it; gitwire_event_part
  * returns each part.

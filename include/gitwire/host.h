@@ -39,6 +39,12 @@ typedef struct gitwire_host gitwire_host;
 GITWIRE_LOOKED_AT
 gitwire_result gitwire_host_new(gitwire_host **host, gitwire_format format, uint32_t features, uint32_t limit, bool advertise);
 
+/* The same, but its advertisement names this agent: 1 to 63 printable ASCII characters, none of them a space, as `mirror/3.2`. gitwire_host_new
+ * names the library's own agent, `git2/1`, and so does an empty text. BAD_VALUE also for another text. */
+GITWIRE_LOOKED_AT
+gitwire_result gitwire_host_new_named(gitwire_host **host, gitwire_format format, uint32_t features, uint32_t limit, bool advertise,
+	const char *agent, size_t agent_length);
+
 /* As gitwire_server_feed and gitwire_server_close. A request is refused at its first bad packet, before it is ASKED. NOT_NOW while one is ASKED or
  * answered, while a packet waits to be pulled, and after the end: so pull until NEED_INPUT before you feed the others. */
 GITWIRE_LOOKED_AT

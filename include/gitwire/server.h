@@ -84,6 +84,11 @@ void gitwire_repository_free(gitwire_repository *repository);
 GITWIRE_BOTH_LOOKED_AT
 gitwire_result gitwire_server_new(gitwire_server **server, const gitwire_repository *repository, uint32_t limit, bool advertise);
 
+/* The same, but its advertisement names this agent, as gitwire_client_new_named has it. BAD_VALUE also for a text that is no agent's name. */
+GITWIRE_BOTH_LOOKED_AT
+gitwire_result gitwire_server_new_named(gitwire_server **server, const gitwire_repository *repository, uint32_t limit, bool advertise,
+	const char *agent, size_t agent_length);
+
 /*
  * Takes bytes of the input: MORE, and `used` is how many: up to the end of a request, a flush instead of one, or an error,
  * or all. NOT_NOW, and none is used, while a packet waits to be pulled and after the end: so pull until NEED_INPUT before

@@ -37,6 +37,12 @@ GITWIRE_LOOKED_AT
 gitwire_answer gitwire_put_advertisement(gitwire_writer *writer, gitwire_format format, uint32_t features, uint8_t *buffer,
 	size_t buffer_length);
 
+/* The same by this agent: 1 to 63 printable ASCII characters, none of them a space. An empty text means the library's own, `git2/1`, as
+ * gitwire_put_advertisement has it. */
+GITWIRE_LOOKED_AT
+gitwire_answer gitwire_put_advertisement_named(gitwire_writer *writer, gitwire_format format, uint32_t features, const char *agent,
+	size_t agent_length, uint8_t *buffer, size_t buffer_length);
+
 /* A reference, with its object, the target of a symbolic one and what an annotated tag peels to; a length of 0 means none: a
  * reference without an object is unborn. */
 GITWIRE_LOOKED_AT

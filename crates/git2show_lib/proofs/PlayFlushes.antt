@@ -1,16 +1,18 @@
 -- Messages end with their flushes, the requests of a client as well as what a server gives.
-use Rattle.std.proofs.Common.{arith, if◌then◌else◌, ◌≡◌, ℕ, ◌+◌, Bool, true, false, map, List, [], ◌∷◌}
+use Rattle.std.proofs.Common.{arith, if◌then◌else◌, ◌≡◌, ℕ, ◌+◌, Bool, true, false, map, Option, List, [], ◌∷◌}
 use Rattle.std.proofs.Common.{◌++◌, length, codes, inl, inr, ◌⊎◌, refl, sym, ap, ◌∙◌, append_assoc, append-nil}
 use Rattle.git_names.specs.declared.object_format.Format.{Format}
 use Rattle.git_pkt.specs.Packets.{Pkt, flush, flushes}
 use Rattle.git_pkt.specs.Splits.{Given}
 use Rattle.git_msg.specs.Arguments.{Arg}
 use Rattle.git_msg.specs.Asked.{Asked, ls_refs, fetch, object_info, ref_prefixes_in, peel_in, symrefs_in}
+use Rattle.git_msg.specs.Agents.{named_if}
 use Rattle.git_msg.specs.WrittenRequest.{text_line, agent_line, format_line, lines_written}
+use Rattle.git_msg.specs.declared.agent.Agent.{Agent}
 use Rattle.git_msg.specs.declared.offers.Caps.{Caps}
 use Rattle.git_msg.specs.declared.offers.Offer.{Offer}
 use Rattle.git_client.specs.Machine.Client.{questions_of}
-use Rattle.git_client.specs.Parts.{nearest}
+use Rattle.git_client.specs.Parts.{Terms, nearest}
 use Rattle.git_server.specs.Answers.{advertisement_of, offered_line, fetch_line, ls_refs_line, IsAnswer, reference_packet, shown_refs, unborn_packets}
 use Rattle.git_server.specs.FetchAnswers.{EndsWithBoundary, EndsWithRefs, IsAfter, IsFetchAnswerBy, IsNegotiated, acknowledgments, is_ready_for, negotiates}
 use Rattle.git_server.specs.Packs.{IsPackfile, packfile_header, whole}
@@ -62,7 +64,7 @@ ends_closed qs (inr h) front back e zero = nothing_behind h.front front back (sy
 
 -- ---- requests
 
-question_once : (agent object_format : Bool) (format : Format) (q : Asked) → flushes (lines_written agent object_format format q) ≡ 1
+question_once : (agent : Option Agent) (object_format : Bool) (format : Format) (q : Asked) → flushes (lines_written agent object_format format q) ≡ 1
 question_once agent object_format format q =
     omega (
       arith,
@@ -71,21 +73,22 @@ question_once agent object_format format q =
       lines_clear agent object_format format q,
     )
 
-pub questions_close : (format : Format) (caps : Caps) (asked : List Asked) → Closes (questions_of format caps asked)
-questions_close format caps [] = inl refl
-questions_close format caps (q ∷ qs) =
-    closes_both (lines_written caps.agent caps.object_format format q) (questions_of format caps qs)
-    (inr (record { front = lines_of caps.agent caps.object_format format q; is = lines_end caps.agent caps.object_format format q }))
-    (questions_close format caps qs)
+pub questions_close : (t : Terms) (caps : Caps) (asked : List Asked) → Closes (questions_of t caps asked)
+questions_close t caps [] = inl refl
+questions_close t caps (q ∷ qs) =
+    let agent = named_if caps.agent t.agent in
+    closes_both (lines_written agent caps.object_format t.format q) (questions_of t caps qs)
+    (inr (record { front = lines_of agent caps.object_format t.format q; is = lines_end agent caps.object_format t.format q }))
+    (questions_close t caps qs)
 
-pub questions_count : (format : Format) (caps : Caps) (asked : List Asked) → flushes (questions_of format caps asked) ≡ length asked
-questions_count format caps [] = refl
-questions_count format caps (q ∷ qs) =
+pub questions_count : (t : Terms) (caps : Caps) (asked : List Asked) → flushes (questions_of t caps asked) ≡ length asked
+questions_count t caps [] = refl
+questions_count t caps (q ∷ qs) =
     omega (
       arith,
-      flushes-append (lines_written caps.agent caps.object_format format q) (questions_of format caps qs),
-      question_once caps.agent caps.object_format format q,
-      questions_count format caps qs,
+      flushes-append (lines_written (named_if caps.agent t.agent) caps.object_format t.format q) (questions_of t caps qs),
+      question_once (named_if caps.agent t.agent) caps.object_format t.format q,
+      questions_count t caps qs,
     )
 
 -- ---- answers
@@ -128,7 +131,7 @@ answers_close repo (q ∷ qs) packets (answer, more, e, is, later) =
 
 offered_last : (offer : Offer) → LastFlush (advertisement_of offer)
 offered_last offer = record {
-  front = text_line (codes "version 2") ∷ agent_line ∷ ls_refs_line offer ∷ fetch_line offer
+  front = text_line (codes "version 2") ∷ agent_line offer.agent ∷ ls_refs_line offer ∷ fetch_line offer
       ∷ (offered_line offer.server_option (codes "server-option")
       ++ format_line offer.format ∷ offered_line offer.object_info (codes "object-info"));
   is = simp append_assoc;

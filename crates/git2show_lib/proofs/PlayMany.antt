@@ -11,6 +11,7 @@ use Rattle.git_pkt.specs.declared.fault.RunFault.{RunFault}
 use Rattle.git_pkt.proofs.Spelling.{append_cancel_length}
 use Rattle.git_msg.specs.Asked.{Asked}
 use Rattle.git_msg.specs.Machine.HeldRequest.{asked_of}
+use Rattle.git_msg.specs.Agents.{named_if}
 use Rattle.git_msg.specs.WrittenRequest.{lines_written}
 use Rattle.git_msg.specs.declared.offers.Caps.{Caps}
 use Rattle.git_msg.specs.declared.requests.Request.{Request}
@@ -79,16 +80,19 @@ module _ {A : Type 0} (t : Terms) (h : History) (old new : Client A) (request : 
       (has_noted t (record h { asked = h.asked ++ asked_of request ∷ []; given = h.given ++ u }) new after) (has_noted t h old stands)
 
   -- the request was sent
-  question_is : u ≡ spelled (questions_of t.format (caps_of old) (asked_of request ∷ []))
+  question_is : u ≡ spelled (questions_of t (caps_of old) (asked_of request ∷ []))
   question_is =
       let q = asked_of request in
       let now : History = record h { asked = h.asked ++ q ∷ []; given = h.given ++ u } in
       let before = given_is t h old stands (quiet_where_ready (phase_of old) ready) in
-      let first = questions_of t.format (caps_of old) h.asked in
-      let second = questions_of t.format (caps_of old) (q ∷ []) in
+      let first = questions_of t (caps_of old) h.asked in
+      let second = questions_of t (caps_of old) (q ∷ []) in
       let all : h.given ++ u ≡ spelled first ++ spelled second =
       given_is t now new after (quiet_where_expected (phase_of new) expected)
-      ∙ rw (same_caps, flat_map-append (lines_written (caps_of old).agent (caps_of old).object_format t.format) h.asked (q ∷ [])) (spelled-append first second)
+      ∙ rw (
+        same_caps,
+        flat_map-append (lines_written (named_if (caps_of old).agent t.agent) (caps_of old).object_format t.format) h.asked (q ∷ []),
+      ) (spelled-append first second)
       in
       (append_cancel_length h.given h.given u (spelled second) refl (all ∙ rw before refl)).1
 
@@ -136,11 +140,11 @@ module _ {R A : Type 0} {state : R → RepoState} {t : Terms} {limit : ℕ} {s0 
         let is = question_is t h old new request question p.runs.along.stands p.ready on step.waits in
         let noted = has_noted t h old p.runs.along.stands in
         let whole = is_whole t h old p.runs.along.stands p.ready in
-        let once = questions_count t.format (caps_of old) (q ∷ []) in
+        let once = questions_count t (caps_of old) (q ∷ []) in
         let more = length-append h.asked (q ∷ []) in
         record {
-          asks = questions_of t.format (caps_of old) (q ∷ []);
-          closes = questions_close t.format (caps_of old) (q ∷ []);
+          asks = questions_of t (caps_of old) (q ∷ []);
+          closes = questions_close t (caps_of old) (q ∷ []);
           stated_is = is;
           given = [];
           used_is = p.rest.packets_are ∙ sym (append-nil (spelled p.rest.packets));
@@ -155,7 +159,7 @@ module _ {R A : Type 0} {state : R → RepoState} {t : Terms} {limit : ℕ} {s0 
               rw ending (
                 (sessions_stated (caps_of old) noted).0,
                 rw (map-append (λ (talk : Talk). talk.content) later (talk_of question all ∷ []), (sessions_stated (caps_of old) noted).1, is, same)
-                    (sym (map-append (λ (a : Asked). spelled (questions_of t.format (caps_of old) (a ∷ []))) h.asked (q ∷ []))),
+                    (sym (map-append (λ (a : Asked). spelled (questions_of t (caps_of old) (a ∷ []))) h.asked (q ∷ []))),
               );
           gave = λ all.
               rw (sym p.rest.packets_are ∙ p.rest.gave, flat_map-append with_end later (talk_of question all ∷ [])) (simp (append_assoc, append-nil));

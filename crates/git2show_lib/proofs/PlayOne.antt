@@ -95,9 +95,9 @@ module _ {R A : Type 0} {state : R → RepoState} {t : Terms} {limit : ℕ} {s0 
         let content = p.h.given ++ step.asks.given in
         let now : History = record p.h { asked = asked; given = content } in
         let more = length-append p.h.asked (asked_of request ∷ []) in
-        sole_turn now (questions_of t.format (caps_of new) asked) after (questions_close t.format (caps_of new) asked)
+        sole_turn now (questions_of t (caps_of new) asked) after (questions_close t (caps_of new) asked)
         (given_is t now new (step.asks.goes t p.h p.runs.along.stands) (quiet_where_expected (phase_of new) step.waits))
-        (questions_count t.format (caps_of new) asked) (goes_on step.asks.given after step.server_goes)
+        (questions_count t (caps_of new) asked) (goes_on step.asks.given after step.server_goes)
         (λ ps e. omega (arith, many_received ps e, more)) (λ all caps. all_sent content all (sent_each t caps asked))
 
     -- and not answered
@@ -131,15 +131,15 @@ module _ {R A : Type 0} {state : R → RepoState} {t : Terms} {limit : ℕ} {s0 
         one_note t h.asked h.used all.caps (caps_of mid) all.noted (has_noted t (record h { left = true }) mid leaves) in
         let parts : given ≡ h.given ++ spelled (flush ∷ []) =
         all.content ∙ rw same (rw leaving.has_unsent at (sym leaves.spoken)) in
-        let asks = questions_of t.format all.caps h.asked ++ flush ∷ [] in
+        let asks = questions_of t all.caps h.asked ++ flush ∷ [] in
         let closes : Closes asks =
-        closes_both (questions_of t.format all.caps h.asked) (flush ∷ []) (questions_close t.format all.caps h.asked)
+        closes_both (questions_of t all.caps h.asked) (flush ∷ []) (questions_close t all.caps h.asked)
         (inr (record { front = []; is = refl })) in
         let rest = settle closes (goes_on announces.conveys.given after announces.server_goes) all.content (λ ps fit e. omega (
           arith,
           many_received ps e,
-          flushes-append (questions_of t.format all.caps h.asked) (flush ∷ []),
-          questions_count t.format all.caps h.asked,
+          flushes-append (questions_of t all.caps h.asked) (flush ∷ []),
+          questions_count t all.caps h.asked,
           advertises_once s refl,
         )) in
         play_ends t (failed_in state after) limit s0 requests (Ok tt) now front [] new split at (record {

@@ -52,11 +52,11 @@ module _ {A : Type 0} (t : Terms) where
 
   -- a client with nothing to send has sent all requests
   pub given_is : (h : History) (client : Client A) → Converses t h client → is_quiet (phase_of client) ≡ true
-      → h.given ≡ spelled (questions_of t.format (caps_of client) h.asked)
+      → h.given ≡ spelled (questions_of t (caps_of client) h.asked)
   given_is h client stands quietly =
       all_is_sent t h client stands (nothing_unsent (phase_of client) (request_of client) quietly)
-      ∙ ap (λ (b : Bool). spelled (sent_of t.format (caps_of client) h.asked b)) (stayed t h client stands quietly)
-      ∙ ap spelled (append-nil (questions_of t.format (caps_of client) h.asked))
+      ∙ ap (λ (b : Bool). spelled (sent_of t (caps_of client) h.asked b)) (stayed t h client stands quietly)
+      ∙ ap spelled (append-nil (questions_of t (caps_of client) h.asked))
 
   module _ (failed : ℕ) (limit : ℕ) (s0 : RepoState) (requests : List (Request A)) where
     -- how a play with this answer moved its streams

@@ -2,9 +2,11 @@
 use crate::adding::{add_filter, add_have, add_revision, add_want, new_request};
 use crate::clients::{new_client, send_all};
 use crate::expecting::expect;
-use crate::servers::{new_server, object, usual};
+use crate::servers::{default_setup, new_server, object};
 use git_client::{Client, ReceivedGot};
-use git_msg::{Caps, Command, Limits, Offer, ReadGot, Request, RequestStream, RequestWriter};
+use git_msg::{
+    Agent, Caps, Command, Limits, Offer, ReadGot, Request, RequestStream, RequestWriter,
+};
 use git_names::{Format, Steps};
 use git_pkt::{Hold, Kind};
 use git_server::{ListRepo, Pulled, Server};
@@ -68,7 +70,7 @@ fn feed<'a>(server: &mut Server<ListRepo, &LocalHeap>, chunk: &'a [u8]) -> &'a [
 
 /// Feeds a server, and drops it. Returns the maximum of the memory that it had.
 fn serve(rt: &(impl Abort + AllocGlobal), heap: &LocalHeap, input: &[u8]) -> Result<usize, Fail> {
-    let mut server = new_server(rt, heap, usual())?;
+    let mut server = new_server(rt, heap, default_setup())?;
     let mut rest = input;
     let mut most = 0;
     for _ in 0..PACKETS {
@@ -213,7 +215,7 @@ fn a_request_is_given_back_wherever_it_breaks_off(rt: HostRuntime) -> Result<(),
 /// Writes a request, which takes no memory. Returns how many packets it has.
 fn packets_of(rt: &impl Abort, heap: &LocalHeap, request: &Request<&LocalHeap>) -> u32 {
     let before = heap.used();
-    let mut writer = RequestWriter::new(request, &Caps::new());
+    let mut writer = RequestWriter::new(request, &Caps::new(), Agent::own());
     let mut hold = Hold::new();
     let mut packets = 0u32;
     for _ in 0..PACKETS {

@@ -3,7 +3,7 @@
 ghost use Rattle.std.specs.Prelude.{◌≤◌};
 
 use crate::expecting::expect;
-use crate::servers::{converse, object, usual};
+use crate::servers::{converse, default_setup, object};
 use git_msg::Offer;
 use git_names::Format;
 use git_pkt::{Fault, Kind, Recorded, RunFault};
@@ -49,7 +49,7 @@ fn repository(rt: &(impl Abort + AllocGlobal), pack: Vec<u8>) -> Result<ListRepo
 fn a_pack_comes_in_full_packets(rt: HostRuntime) -> Result<(), Fail> {
     let repo = repository(&rt, vec![in rt.alloc(); b'p'; PACK_BYTES]?)?;
     let offer = Offer::everything(repo.format());
-    let mut server = Server::new(rt.alloc(), repo, offer, usual().limits, false);
+    let mut server = Server::new(rt.alloc(), repo, offer, default_setup().limits, false);
     let (given, outcome) = converse(&mut server, rt.alloc(), &[REQUEST])?;
     let mut rest = given.as_slice();
     for wanted in [13, 65_520, 6, 0] {
@@ -86,7 +86,7 @@ fn serve_failing(
     let repo = repository(rt, Vec::from_slice(rt.alloc(), pack)?)?;
     let repo = Faulty::new(repo, failing, most);
     let offer = Offer::everything(repo.format());
-    let mut server = Server::new(rt.alloc(), repo, offer, usual().limits, false);
+    let mut server = Server::new(rt.alloc(), repo, offer, default_setup().limits, false);
     let mut given = Vec::new(rt.alloc());
     let run = serve(
         &mut Recorded::new(REQUEST),

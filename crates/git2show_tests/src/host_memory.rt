@@ -1,6 +1,6 @@
 //! Memory of a server over a store: it keeps nothing of the references that are reported, and each growth of a session is refused in turn.
 use crate::expecting::{expect, expect_bytes};
-use crate::servers::{entry, object, usual};
+use crate::servers::{default_setup, entry, object};
 use git_host::{HostReported, HostServer, HostStep, Need, Report};
 use git_msg::Offer;
 use git_names::{Format, Steps};
@@ -39,7 +39,7 @@ pub fn new_host<A: Allocator + Copy>(alloc: A) -> HostServer<A> {
     HostServer::new(
         alloc,
         Offer::everything(Format::Sha1),
-        usual().limits,
+        default_setup().limits,
         false,
     )
 }

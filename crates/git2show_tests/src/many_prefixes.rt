@@ -1,6 +1,6 @@
 //! A request of many prefixes is answered with the references that begin with one of them, in their order, whatever the order of the
 //! prefixes, however often each comes, and whether or not one begins with another.
-use crate::servers::{converse, object, usual};
+use crate::servers::{converse, default_setup, object};
 use git_msg::Offer;
 use git_names::Format;
 use git_server::{ListRepo, Outcome, Pack, RefEntry, Repo, Server};
@@ -82,7 +82,7 @@ fn expected(alloc: Global, tens: bool) -> Result<Vec<u8>, AllocError> {
 fn check_answer(rt: &(impl Abort + AllocGlobal), order: Order) -> Result<(), Fail> {
     let repo = repository(rt)?;
     let offer = Offer::nothing(repo.format());
-    let mut server = Server::new(rt.alloc(), repo, offer, usual().limits, false);
+    let mut server = Server::new(rt.alloc(), repo, offer, default_setup().limits, false);
     let request = request(rt.alloc(), order)?;
     let (given, ended) = converse(&mut server, rt.alloc(), &[request.as_slice()])?;
     assert_eq!(rt; ended, Some(Outcome::Closed), "{order:?}");

@@ -3,7 +3,7 @@
 ghost use Rattle.git_server.specs.Machine.ListRepo.{is_short, is_sound, state_of};
 
 use crate::expecting::expect;
-use crate::servers::{repository, usual};
+use crate::servers::{default_setup, repository};
 use git_msg::{Boundary, Fetch, Offer};
 use git_names::{Format, Oid};
 use git_pkt::Recorded;
@@ -82,7 +82,7 @@ fn times_asked(rt: &(impl Abort + AllocGlobal), requests: &[u8]) -> Result<u32, 
         times: &times,
     };
     let offer = Offer::everything(repo.format());
-    let mut server = Server::new(rt.alloc(), repo, offer, usual().limits, false);
+    let mut server = Server::new(rt.alloc(), repo, offer, default_setup().limits, false);
     let mut reader = Recorded::new(requests);
     let mut given = Vec::new(rt.alloc());
     let mut writer = Recorded::new(&mut given);

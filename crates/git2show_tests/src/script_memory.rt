@@ -1,6 +1,6 @@
 //! Memory that runs out while a script is read, at each allocation in turn.
 use crate::expecting::expect;
-use git_msg::{Caps, Limits, Request, RequestWriter};
+use git_msg::{Agent, Caps, Limits, Request, RequestWriter};
 use git_names::Format;
 use git_pkt::Hold;
 use git_repository::TextFault;
@@ -59,7 +59,7 @@ fn append_written<A: Allocator + Copy>(
     written: &mut Vec<u8>,
     request: &Request<A>,
 ) -> Result<(), AllocError> {
-    let mut writer = RequestWriter::new(request, &Caps::new());
+    let mut writer = RequestWriter::new(request, &Caps::new(), Agent::own());
     let mut hold = Hold::new();
     for _ in 0..PACKETS {
         if !writer.pull(request, &mut hold) {

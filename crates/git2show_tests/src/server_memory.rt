@@ -1,6 +1,6 @@
 //! Memory that runs out at each allocation in turn.
 use crate::expecting::{expect, expect_bytes};
-use crate::servers::{converse, new_server, refusal, repository, server_of, usual};
+use crate::servers::{converse, default_setup, new_server, refusal, repository, server_of};
 use git_names::Format;
 use git_pkt::{Kind, Recorded, RunFault};
 use git_server::{Outcome, serve};
@@ -47,7 +47,7 @@ fn serve_with(
         &mut Recorded::new(input),
         &mut Recorded::new(&mut written),
         &mut chunk,
-        &mut server_of(repo, &heap, usual()),
+        &mut server_of(repo, &heap, default_setup()),
         100,
     );
     Ok((written, run))
@@ -61,7 +61,11 @@ fn converse_with(
 ) -> Result<(Vec<u8>, Option<Outcome>), Fail> {
     let repo = repository(rt, Format::Sha1)?;
     let heap = LocalHeap::new(rt.alloc(), size)?;
-    Ok(converse(&mut server_of(repo, &heap, usual()), rt.alloc(), &[request])?)
+    Ok(converse(
+        &mut server_of(repo, &heap, default_setup()),
+        rt.alloc(),
+        &[request],
+    )?)
 }
 
 // What it sends with a heap of this size, and how the session ends. The first text takes two blocks of 16 bytes, for the ends of four texts
@@ -178,7 +182,7 @@ fn without_memory_a_run_ends_at_the_first_text(rt: HostRuntime) -> Result<(), Fa
 fn a_session_of_flags_takes_no_memory(rt: HostRuntime) -> Result<(), Fail> {
     let input = b"0014command=ls-refs\n00010009peel\n000csymrefs\n0000";
     let (given, ended) = converse_with(&rt, input, 0)?;
-    let mut other = new_server(&rt, rt.alloc(), usual())?;
+    let mut other = new_server(&rt, rt.alloc(), default_setup())?;
     let (expected, _) = converse(&mut other, rt.alloc(), &[input])?;
     expect(&rt, &ended, &Some(Outcome::Closed));
     expect_bytes(&rt, &given, &expected);

@@ -24,7 +24,7 @@ pub struct Setup {
 }
 
 /// SHA-1, the default limit, and no advertisement.
-pub fn usual() -> Setup {
+pub fn default_setup() -> Setup {
     Setup {
         format: Format::Sha1,
         limits: Limits::DEFAULT,
@@ -37,7 +37,7 @@ pub fn advertising(format: Format) -> Setup {
     Setup {
         format,
         advertise: true,
-        ..usual()
+        ..default_setup()
     }
 }
 

@@ -1,6 +1,6 @@
 //! Servers over readers and writers: when they flush, what is reported if streams stop, and reads above the limit.
 use crate::expecting::{expect, expect_bytes};
-use crate::servers::{Setup, advertising, new_server, run_server, usual};
+use crate::servers::{Setup, advertising, default_setup, new_server, run_server};
 use crate::stopping::{ALL, MANY, TURNS, expect_front, expect_sent_bytes};
 use git_names::Format;
 use git_pkt::{Recorded, RunFault, Stops};
@@ -71,7 +71,7 @@ fn all_is_flushed_at_the_end(rt: HostRuntime) -> Result<(), Fail> {
 
 #[test]
 fn all_is_flushed_where_the_reads_are_spent(rt: HostRuntime) -> Result<(), Fail> {
-    let (run, held) = run_held(&rt, b"0014command=ls-refs\n0000", usual(), 5)?;
+    let (run, held) = run_held(&rt, b"0014command=ls-refs\n0000", default_setup(), 5)?;
     expect(&rt, &run, &Err(RunFault::ReadLimit));
     expect(&rt, &held.passed.len(), &173);
     // Once before each read and once at the end, although the answer has four packets.
@@ -141,7 +141,14 @@ fn each_answer_is_flushed_before_the_next_read(rt: HostRuntime) -> Result<(), Fa
         waiting: 0,
         flushed: &flushed,
     });
-    let run = run_server(&rt, usual(), &mut reader, &mut writer, &mut [0; 64], 100)?;
+    let run = run_server(
+        &rt,
+        default_setup(),
+        &mut reader,
+        &mut writer,
+        &mut [0; 64],
+        100,
+    )?;
     expect(&rt, &run, &Ok(Outcome::Flush));
     assert_eq!(rt; asking.seen.as_slice(), [0, 173, 346].as_slice());
     Ok(())
@@ -231,7 +238,14 @@ fn a_session_without_an_end_ends_at_the_limit_of_reads(rt: HostRuntime) -> Resul
     let mut sink = Sink::new(Vec::new(rt.alloc()), usize::MAX, u32::MAX);
     let mut reader = Recorded::new(Endless::new(b"", b"0014command=ls-refs\n0000"));
     let mut writer = Recorded::new(&mut sink);
-    let run = run_server(&rt, usual(), &mut reader, &mut writer, &mut [0; 64], 100)?;
+    let run = run_server(
+        &rt,
+        default_setup(),
+        &mut reader,
+        &mut writer,
+        &mut [0; 64],
+        100,
+    )?;
     expect(&rt, &run, &Err(RunFault::ReadLimit));
     expect(&rt, &reader.reads(), &100);
     expect(&rt, &sink.taken.len(), &17_300);
@@ -241,7 +255,7 @@ fn a_session_without_an_end_ends_at_the_limit_of_reads(rt: HostRuntime) -> Resul
 
 #[test]
 fn reads_that_are_spent(rt: HostRuntime) -> Result<(), Fail> {
-    let mut server = new_server(&rt, rt.alloc(), usual())?;
+    let mut server = new_server(&rt, rt.alloc(), default_setup())?;
     let mut reader = Recorded::new(b"0014command=ls-refs\n0000".as_slice());
     let mut given = Vec::new(rt.alloc());
     let mut writer = Recorded::new(&mut given);
@@ -260,7 +274,7 @@ fn reads_that_are_spent(rt: HostRuntime) -> Result<(), Fail> {
 
 #[test]
 fn a_server_gives_its_repository_back(rt: HostRuntime) -> Result<(), Fail> {
-    let repo = new_server(&rt, rt.alloc(), usual())?.into_repo();
+    let repo = new_server(&rt, rt.alloc(), default_setup())?.into_repo();
     expect(&rt, &repo.refs().len(), &3);
     assert!(rt; repo.find(b"refs/tags/v1").is_some());
     assert!(rt; repo.find(b"refs/tags/v2").is_none());

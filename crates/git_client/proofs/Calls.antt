@@ -9,7 +9,7 @@ use Rattle.git_pkt.specs.Machine.Credit.{ArePaid, MakesAll, credit_of}
 use Rattle.git_pkt.proofs.Credits.{all_paid}
 use Rattle.git_msg.specs.Machine.HeldRequest.{kept_of, limit_of as request_limit, stored_of}
 use Rattle.git_msg.specs.declared.requests.Request.{Request}
-use Rattle.git_client.specs.Parts.{Terms, terms_of}
+use Rattle.git_client.specs.Parts.{Terms, in_format}
 use Rattle.git_client.specs.Events.{EventValue}
 use Rattle.git_client.specs.Machine.Choosing.{ChoosesFormat}
 use Rattle.git_client.specs.Machine.Client.{History, Converses, format_of, nothing_yet, can_ask, phase_of, reader_of, stored_in, kept_in, limit_in}
@@ -68,15 +68,15 @@ module _ {A : Type 0} where
 
   -- a call of `choose_format` leaves the history as it was, in the format chosen
   pub chosen_on : (t : Terms) (format : Format) (h : History) (old new : Client A) → ChoosesFormat old new → format_of new ≡ format → Converses t h old
-      → Converses (terms_of format t.ending) h new
-  chosen_on t format h old new chosen is c = subst (λ (f : Format). Converses (terms_of f t.ending) h new) is (chosen.carries t h c)
+      → Converses (in_format format t) h new
+  chosen_on t format h old new chosen is c = subst (λ (f : Format). Converses (in_format f t) h new) is (chosen.carries t h c)
 
   all_go_on : (t : Terms) (calls : List (AnyCall A)) (h : History) (before : ℕ) (old : Client A) (after : ℕ) (new : Client A)
       → MakesAll MakesAny calls before old after new → Converses t h old
       → Converses (terms_after t calls) (history_after h (others_of calls)) new
   all_go_on t [] h before old after new (counter, same) c = subst (λ (client : Client A). Converses t h client) (sym same) c
   all_go_on t (choose format ∷ calls) h before old after new (next, between, (chosen, is, counter), more) c =
-      all_go_on (terms_of format t.ending) calls h next between after new more (chosen_on t format h old between chosen is c)
+      all_go_on (in_format format t) calls h next between after new more (chosen_on t format h old between chosen is c)
   all_go_on t (other call ∷ calls) h before old after new (next, between, made, more) c =
       all_go_on t calls (after_call h call) next between after new more (goes_on t call h before old next between made c)
 

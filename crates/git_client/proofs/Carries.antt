@@ -23,7 +23,7 @@ use Rattle.git_client.specs.Opened.{opened_in}
 use Rattle.git_client.specs.Conversation.{GiveAll, HasExpected}
 use Rattle.git_client.specs.Machine.Turns.{has_left_in, left_in, question_in, events_at, phase_in, place_expected, NotesAfter, IsTurn}
 use Rattle.git_client.specs.Machine.Client.{History, Converses, ReceivesOn, StandsIn, Goes, Behind, IsExpected, spelled}
-use Rattle.git_client.specs.Machine.Client.{questions_of, farewell, format_of, is_of_any_format, ending_of, caps_of, phase_of, reader_of, request_of}
+use Rattle.git_client.specs.Machine.Client.{questions_of, farewell, agent_of, format_of, is_of_any_format, ending_of, caps_of, phase_of, reader_of, request_of}
 use Rattle.git_client.specs.declared.events.Ending.{Ending}
 use Rattle.git_client.specs.declared.phase.Phase.{Phase}
 use Rattle.git_client.specs.declared.phase.Phase.TheVariants.{Receiving, Ready, Asking, Leaving, Left, Failed}
@@ -93,20 +93,25 @@ none_of (q ∷ asked) e = absurd (omega arith)
 
 -- capabilities are noted only before anything is asked
 same_questions : (t : Terms) (asked : List Asked) (before : List Pkt) (expected : Expected) (caps after : Caps) (p : Pkt) → IsExpected t asked before expected
-    → NotesAfter expected caps p after → questions_of t.format after asked ≡ questions_of t.format caps asked
+    → NotesAfter expected caps p after → questions_of t after asked ≡ questions_of t caps asked
 same_questions t asked before Capabilities caps after (payload line) d notes =
     let none = none_of asked (omega (arith, d.counts, no_flush t asked before _ (stands t asked before Capabilities d).is_part refl)) in
-    ap (questions_of t.format after) none ∙ sym (ap (questions_of t.format caps) none)
-same_questions t asked before expected caps after p d notes = ap (λ (a : Caps). questions_of t.format a asked) notes
+    ap (questions_of t after) none ∙ sym (ap (questions_of t caps) none)
+same_questions t asked before expected caps after p d notes = ap (λ (a : Caps). questions_of t a asked) notes
 
 module _ {A : Type 0} where
+  -- what stays in each call: the terms, and whether the format is to be chosen
+  pub record KeepsTerms (old new : Client A) : Type 0 where
+    pub format : format_of new ≡ format_of old
+    pub any : is_of_any_format new ≡ is_of_any_format old
+    pub ending : ending_of new ≡ ending_of old
+    pub agent : agent_of new ≡ agent_of old
+
   -- The client has read these bytes. Then these packets are returned, and these events were handed out for bytes that were passed on.
   pub record ReceivesBytes (old new : Client A) (expected : Expected) (u : List ℕ) (announced : List Given) (parts : List EventValue) : Type 0 where
     pub receiving : phase_of old ≡ Receiving expected
     pub reaches : Reaches old expected u announced parts (reader_of new)
-    pub format : format_of new ≡ format_of old
-    pub any : is_of_any_format new ≡ is_of_any_format old
-    pub ending : ending_of new ≡ ending_of old
+    pub terms : KeepsTerms old new
 
   -- the state of the conversation after them
   pub record Continues (t : Terms) (h : History) (old new : Client A) (now : List EventValue) (given : List Given) (rest : List ℕ) (end : ℕ) : Type 0 where
@@ -116,7 +121,7 @@ module _ {A : Type 0} where
     pub events_are : h.events ++ now ≡ whole ++ opened_in (place_after t h.asked (nearest clean [])) rest
     pub notes : caps_of new ≡ noted_of (advertisement_of (nearest clean []))
     pub stands : StandsIn (phase_of new) t h.asked clean given rest end (question_in (request_of new)) (reader_of new)
-    pub same_questions : questions_of t.format (caps_of new) h.asked ≡ questions_of t.format (caps_of old) h.asked
+    pub same_questions : questions_of t (caps_of new) h.asked ≡ questions_of t (caps_of old) h.asked
 
   -- so the history goes on by these bytes
   receives_bytes : (old new : Client A) (expected : Expected) (u : List ℕ) (announced : List Given) (parts now : List EventValue)
@@ -132,8 +137,9 @@ module _ {A : Type 0} where
         given = r.clean ++ announced;
         rest = r.rest;
         clean = a.clean;
-        format_is = b.format ∙ c.format_is;
-        ending_is = b.ending ∙ c.ending_is;
+        format_is = b.terms.format ∙ c.format_is;
+        ending_is = b.terms.ending ∙ c.ending_is;
+        agent_is = b.terms.agent ∙ c.agent_is;
         reads = r.reads;
         whole = a.whole;
         gives = a.gives;
@@ -165,7 +171,7 @@ module _ {A : Type 0} where
             (question_in (request_of new)) (reader_of new)) (sym now)
             (stands_on (Receiving expected) t h.asked r.clean (r.clean ++ []) r.rest (length (h.used ++ u))
             (question_in (request_of new)) (reader_of new) refl next);
-        same_questions = ap (λ (a : Caps). questions_of t.format a h.asked) caps;
+        same_questions = ap (λ (a : Caps). questions_of t a h.asked) caps;
       })
 
   -- one packet was read, and is in the hold
@@ -227,7 +233,7 @@ module _ {A : Type 0} where
     notes = caps ∙ r.notes;
     stands = subst (λ (phase : Phase). StandsIn phase t h.asked r.clean (r.clean ++ announced) r.rest (length (h.used ++ u)) (question_in (request_of new))
         (reader_of new)) (sym failed) stands;
-    same_questions = ap (λ (a : Caps). questions_of t.format a h.asked) caps;
+    same_questions = ap (λ (a : Caps). questions_of t a h.asked) caps;
   }
 
   -- a packet that is refused

@@ -9,14 +9,14 @@ use Rattle.git_pkt.specs.declared.reader.PacketReader.{PacketReader}
 use Rattle.git_msg.specs.Advertisement.{is_spoken, noted_of}
 use Rattle.git_msg.specs.Asked.{Asked}
 use Rattle.git_msg.specs.declared.offers.Caps.{Caps}
-use Rattle.git_client.specs.Parts.{Terms, Part, advertisement, closing, terms_of, nearest, advertisement_of, message_of, part_after, part_of}
+use Rattle.git_client.specs.Parts.{Terms, Part, advertisement, closing, in_format, nearest, advertisement_of, message_of, part_after, part_of}
 use Rattle.git_client.specs.Places.{Place, version, capabilities, place_of, place_after}
 use Rattle.git_client.specs.Events.{EventValue, capability, Gives}
 use Rattle.git_client.specs.Opened.{opened_in}
 use Rattle.git_client.specs.Conversation.{GivesAt, GiveAll}
 use Rattle.git_client.specs.Machine.Turns.{has_left_in, left_in, question_in}
 use Rattle.git_client.specs.Machine.Client.{History, Converses, StandsIn, Goes, IsExpected, awaits_end, sent_of, spelled}
-use Rattle.git_client.specs.Machine.Client.{format_of, ending_of, caps_of, left_to_send, phase_of, reader_of, request_of}
+use Rattle.git_client.specs.Machine.Client.{agent_of, format_of, ending_of, caps_of, left_to_send, phase_of, reader_of, request_of}
 use Rattle.git_client.specs.Machine.Choosing.{ChoosesFormat, format_by, is_advertising, may_choose}
 use Rattle.git_client.specs.declared.client.Client.{Client}
 use Rattle.git_client.specs.declared.events.Ending.{Ending}
@@ -28,10 +28,6 @@ use Rattle.git_client.proofs.Carries.{none_of}
 use Rattle.git_client.proofs.Judged.{place_is}
 use Rattle.git_client.proofs.Opened.{not_opened}
 use Rattle.git_client.proofs.PartSteps.{is_early, no_end, no_flush, part_expected, stands}
-
--- the terms of the same conversation in another format
-abbrev in_format : Format → Terms → Terms
-in_format format t = terms_of format t.ending
 
 same_part : (format : Format) (t : Terms) (asked : List Asked) (before : List Pkt) → part_of (in_format format t) asked before ≡ part_of t asked before
 same_part format t asked [] = refl
@@ -141,6 +137,7 @@ module _ {A : Type 0} (old new : Client A) where
   -- only the format may have changed
   pub record KeepsOthers : Type 0 where
     pub ending : ending_of new ≡ ending_of old
+    pub agent : agent_of new ≡ agent_of old
     pub reader : reader_of new ≡ reader_of old
     pub phase : phase_of new ≡ phase_of old
     pub caps : caps_of new ≡ caps_of old
@@ -161,9 +158,9 @@ module _ {A : Type 0} (old new : Client A) where
       let is = expected_too (format_of new) t h.asked before e.expected goes.behind in
       let now : Goes u h.asked c.clean c.given c.rest (question_in (request_of new)) (Receiving e.expected) (reader_of new) =
       record { cut = goes.cut; sound = ap reader_fault_of keeps.reader ∙ goes.sound; behind = is; shut = λ f. absurd (cc) } in
-      let sent : sent_of t.format (caps_of old) h.asked h.left ≡ sent_of u.format (caps_of new) h.asked h.left =
-      ap (λ (asked : List Asked). sent_of t.format (caps_of old) asked h.left) unasked
-      ∙ sym (ap (λ (asked : List Asked). sent_of u.format (caps_of new) asked h.left) unasked) in
+      let sent : sent_of t (caps_of old) h.asked h.left ≡ sent_of u (caps_of new) h.asked h.left =
+      ap (λ (asked : List Asked). sent_of t (caps_of old) asked h.left) unasked
+      ∙ sym (ap (λ (asked : List Asked). sent_of u (caps_of new) asked h.left) unasked) in
       let unsent : left_to_send new ≡ left_to_send old =
       ap (λ (phase : Phase). left_in phase (request_of new)) keeps.phase ∙ ap (left_in (phase_of old)) keeps.request in
       record {
@@ -172,6 +169,7 @@ module _ {A : Type 0} (old new : Client A) where
         clean = c.clean;
         format_is = refl;
         ending_is = keeps.ending ∙ c.ending_is;
+        agent_is = keeps.agent ∙ c.agent_is;
         reads = subst (λ (reader : PacketReader). Reads reader 0 h.used c.given c.rest) (sym keeps.reader) c.reads;
         whole = c.whole;
         gives = all_give_too (format_of new) t h.asked [] c.clean c.whole none c.gives;
@@ -190,10 +188,11 @@ module _ {A : Type 0} (old new : Client A) where
 pub keeps_format : {A : Type 0} (client : Client A) → may_choose client ≡ false → ChoosesFormat client client
 keeps_format client never = record {
   format = sym (ap (λ (b : Bool). cond b (format_by (caps_of client)) (format_of client)) never);
-  carries = λ t h c. subst (λ (format : Format). Converses (terms_of format t.ending) h client) (sym c.format_is) c;
+  carries = λ t h c. subst (λ (format : Format). Converses (in_format format t) h client) (sym c.format_is) c;
   stays = λ _. refl;
   any = refl;
   ending = refl;
+  agent = refl;
   reader = refl;
   phase = refl;
   caps = refl;

@@ -9,13 +9,13 @@ use Rattle.git_pkt.proofs.KnownRest.{sound_rest, none_between, rest_length}
 use Rattle.git_pkt.proofs.Streams.{one_split}
 use Rattle.git_client.specs.Parts.{Terms}
 use Rattle.git_client.specs.Machine.Turns.{takes_packets, fault_in}
-use Rattle.git_client.specs.Machine.Client.{History, Converses, ReceivesOn, phase_of, reader_of, format_of, is_of_any_format, ending_of, caps_of, wants_input}
+use Rattle.git_client.specs.Machine.Client.{History, Converses, ReceivesOn, phase_of, reader_of, caps_of, wants_input}
 use Rattle.git_client.specs.declared.phase.Phase.{Phase}
 use Rattle.git_client.specs.declared.phase.Phase.TheVariants.{Receiving, Failed}
 use Rattle.git_client.specs.declared.phase.Expected.{Expected}
 use Rattle.git_client.specs.declared.client.Client.{Client}
 use Rattle.git_client.proofs.Reached.{reach_end}
-use Rattle.git_client.proofs.Carries.{ReceivesBytes, receives_end, receives_failed}
+use Rattle.git_client.proofs.Carries.{KeepsTerms, ReceivesBytes, receives_end, receives_failed}
 
 receiving_in : (phase : Phase) → takes_packets phase ≡ true → (expected : Expected) × (phase ≡ Receiving expected)
 receiving_in (Receiving expected) takes = (expected, refl)
@@ -33,9 +33,7 @@ EndsBy reader f =
 -- only the reader and the phase change
 pub record Keeps {A : Type 0} (old new : Client A) (left : PacketReader) : Type 0 where
   pub reader : reader_of new ≡ left
-  pub format : format_of new ≡ format_of old
-  pub any : is_of_any_format new ≡ is_of_any_format old
-  pub ending : ending_of new ≡ ending_of old
+  pub terms : KeepsTerms old new
   pub caps : caps_of new ≡ caps_of old
 
 -- a client whose input ended while more was expected
@@ -46,9 +44,7 @@ closes old new reader f wants reads by keeps failed =
     let bytes : ReceivesBytes old new expected [] [] [] = record {
       receiving = receiving;
       reaches = reach_end old expected (reader_of new) receiving (subst (ReadsOn (reader_of old) [] []) (sym keeps.reader) reads);
-      format = keeps.format;
-      any = keeps.any;
-      ending = keeps.ending;
+      terms = keeps.terms;
     } in
     elim (subst (λ (r : PacketReader). EndsBy r f) (sym keeps.reader) by) [
       | inl b ↦ receives_end old new expected f bytes b.0 b.1 b.2 b.3 failed keeps.caps

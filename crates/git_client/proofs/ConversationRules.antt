@@ -15,7 +15,7 @@ use Rattle.git_msg.specs.Capability.{IsCapability}
 use Rattle.git_msg.specs.Texts.{spaced_words}
 use Rattle.git_client.specs.declared.events.Ending.{Ending}
 use Rattle.git_client.specs.declared.events.Ending.TheVariants.{FlushOnly, ResponseEnd}
-use Rattle.git_client.specs.Parts.{Part, Terms, answer_to, closing, is_end_expected, is_zero, message_of, nearest, part_after, terms_of}
+use Rattle.git_client.specs.Parts.{Part, Terms, answer_to, closing, is_end_expected, is_zero, message_of, nearest, part_after, terms_by}
 use Rattle.git_client.specs.Places.{Place, capabilities, place_after, place_of, response_end, version}
 use Rattle.git_client.specs.Events.{EventValue, Gives, GivesLine, capability, events_of_flush, offered}
 use Rattle.git_client.specs.Conversation.{GiveAll, GivesAt, IsConversation}
@@ -87,7 +87,7 @@ spoken_order Sha256 gs = any_order (names_format (codes "sha256")) gs
 pub line_expected : (t : Terms) (asked : List Asked) (line : List ℕ) (before : List Pkt) → flushes before ≡ 0
     → place_after t asked (payload line ∷ before) ≡ Some (capabilities (is_spoken (noted_of (payload line ∷ message_of before)) t.format))
 line_expected t asked line before none = by t.ending where
-  by : (ending : Ending) → place_after (terms_of t.format ending) asked (payload line ∷ before)
+  by : (ending : Ending) → place_after (terms_by t.agent t.format ending) asked (payload line ∷ before)
       ≡ Some (capabilities (is_spoken (noted_of (payload line ∷ message_of before)) t.format))
   by FlushOnly = rw none refl
   by ResponseEnd = rw none refl

@@ -191,7 +191,7 @@ module _ {A : Type 0} (t : Terms) (h : History) (client : Client A) (c : Convers
   pub position_is : bytes_used client ≡ length h.used
   position_is = c.reads.position ∙ zero-add (length h.used)
 
-  pub all_is_sent : left_to_send client ≡ [] → h.given ≡ spelled (sent_of t.format (caps_of client) h.asked h.left)
+  pub all_is_sent : left_to_send client ≡ [] → h.given ≡ spelled (sent_of t (caps_of client) h.asked h.left)
   all_is_sent nothing = sym (append-nil h.given) ∙ ap (λ l. h.given ++ spelled l) (sym nothing) ∙ c.spoken
 
 pub later_questions : (t : Terms) (asked more : List Asked) (bytes : List ℕ) (events : List EventValue) → IsConversation t asked bytes events

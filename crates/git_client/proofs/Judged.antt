@@ -7,7 +7,8 @@ use Rattle.git_pkt.specs.declared.fault.Kind.{Kind}
 use Rattle.git_msg.specs.Advertisement.{noted_of, is_spoken}
 use Rattle.git_msg.specs.Asked.{Asked}
 use Rattle.git_msg.specs.declared.offers.Caps.{Caps}
-use Rattle.git_client.specs.Parts.{Terms, terms_of, Part, sections, closing, advertisement_of, message_of, is_end_expected, is_zero, part_after}
+use Rattle.git_msg.specs.declared.agent.Agent.{Agent}
+use Rattle.git_client.specs.Parts.{Terms, terms_by, Part, sections, closing, advertisement_of, message_of, is_end_expected, is_zero, part_after}
 use Rattle.git_client.specs.Places.{version, capabilities, header, acknowledgments, size_line, sizes, place_in, place_of, place_after}
 use Rattle.git_client.specs.Events.{EventValue, section, Gives, Refuses, MeansEvents}
 use Rattle.git_client.specs.Conversation.{GivesAt, RefusesAt}
@@ -108,10 +109,10 @@ not_last format ending caps ResponseEnd flush events goes gives = absurd goes
 not_last format ending caps ResponseEnd resp_end events goes gives = absurd goes
 not_last format ending caps expected p events goes gives = refl
 
-response_over : (format : Format) (ending : Ending) (asked : List Asked) (before : List Pkt) → flushes before ≡ length asked → is_zero (flushes before) ≡ false
-    → Behind (terms_of format ending) asked (flush ∷ before) None (phase_after_response ending)
-response_over format FlushOnly asked before counts some = record { all_flushes = ap suc counts; no_end_expected = refl; no_message = refl }
-response_over format WithResponseEnd asked before counts some = record {
+response_over : (agent : Agent) (format : Format) (ending : Ending) (asked : List Asked) (before : List Pkt) → flushes before ≡ length asked
+    → is_zero (flushes before) ≡ false → Behind (terms_by agent format ending) asked (flush ∷ before) None (phase_after_response ending)
+response_over agent format FlushOnly asked before counts some = record { all_flushes = ap suc counts; no_end_expected = refl; no_message = refl }
+response_over agent format WithResponseEnd asked before counts some = record {
   part = closing;
   is_part = ap (λ (b : Bool). cond (not b) (Some closing) (part_after asked (suc (flushes before)))) some;
   counts = omega arith;
@@ -125,7 +126,7 @@ response_flush : (t : Terms) (asked : List Asked) (before : List Pkt) (expected 
     → awaits_end expected ≡ 0 → is_early (part_expected s.done expected) ≡ false → Behind t asked (flush ∷ before) None (phase_after_response t.ending)
 response_flush t asked before expected is s none late =
     let goes = goes_on t asked before (part_expected s.done expected) s.is_part (sym (awaits_where s.done expected) ∙ none) in
-    response_over t.format t.ending asked before (omega (arith, is.counts)) (goes.early ∙ late)
+    response_over t.agent t.format t.ending asked before (omega (arith, is.counts)) (goes.early ∙ late)
 
 no_end_yet : (ending : Ending) (before : List Pkt) → flushes before ≡ 0 → is_end_expected ending (flush ∷ before) ≡ false
 no_end_yet FlushOnly before none = refl

@@ -28,7 +28,9 @@ use Rattle.git_client.specs.Events.{EventValue}
 use Rattle.git_client.specs.Opened.{opened_in}
 use Rattle.git_client.specs.Machine.Turns.{fault_in, is_ready, has_left_in, left_in, question_in, first_expected}
 use Rattle.git_client.specs.Machine.Client.{History, Converses, AsksOn, SendsOn, GivesOne, Leaves, Puts, StandsIn, Goes, Behind, AreWhole, IsAsked, IsExpected}
-use Rattle.git_client.specs.Machine.Client.{questions_of, sent_of, spelled, format_of, ending_of, caps_of, phase_of, reader_of}
+use Rattle.git_msg.specs.Agents.{named_if}
+use Rattle.git_msg.specs.declared.agent.Agent.{Agent}
+use Rattle.git_client.specs.Machine.Client.{questions_of, sent_of, spelled, agent_of, format_of, ending_of, caps_of, phase_of, reader_of}
 use Rattle.git_client.specs.Machine.Client.{request_of, has_left, left_to_send}
 use Rattle.git_client.specs.declared.phase.Phase.{Phase}
 use Rattle.git_client.specs.declared.phase.Phase.TheVariants.{Receiving, Ready, Asking, Leaving, Left, Failed}
@@ -86,15 +88,16 @@ expected_stated t asked before question h =
     (subst (λ (q : Asked). IsExpected t (h.earlier ++ h.last ∷ []) before (first_expected q)) same (expected_asked t h.earlier h.last before h.whole))
 
 -- what is sent with one more request
-stated_more : (format : Format) (caps : Caps) (asked : List Asked) (question : Asked) (given : List ℕ)
-    → given ++ [] ≡ spelled (sent_of format caps asked false)
-    → given ++ spelled (lines_written caps.agent caps.object_format format question) ≡ spelled (sent_of format caps (asked ++ question ∷ []) false)
-stated_more format caps asked question given h =
-    let write : Asked → List Pkt = lines_written caps.agent caps.object_format format in
+stated_more : (t : Terms) (caps : Caps) (asked : List Asked) (question : Asked) (given : List ℕ)
+    → given ++ [] ≡ spelled (sent_of t caps asked false)
+    → given ++ spelled (lines_written (named_if caps.agent t.agent) caps.object_format t.format question)
+    ≡ spelled (sent_of t caps (asked ++ question ∷ []) false)
+stated_more t caps asked question given h =
+    let write : Asked → List Pkt = lines_written (named_if caps.agent t.agent) caps.object_format t.format in
     ap (λ (l : List ℕ). l ++ spelled (write question))
-    (sym (append-nil given) ∙ h ∙ ap spelled (append-nil (questions_of format caps asked)))
-    ∙ sym (flat_map-append spelling_of (questions_of format caps asked) (write question))
-    ∙ ap spelled (flat_map_more write [] asked question ∙ sym (append-nil (questions_of format caps (asked ++ question ∷ []))))
+    (sym (append-nil given) ∙ h ∙ ap spelled (append-nil (questions_of t caps asked)))
+    ∙ sym (flat_map-append spelling_of (questions_of t caps asked) (write question))
+    ∙ ap spelled (flat_map_more write [] asked question ∙ sym (append-nil (questions_of t caps (asked ++ question ∷ []))))
 
 -- a reader between two packets whose hold was lent reads on as before
 pub record IsLent (old new : PacketReader) : Type 0 where
@@ -153,6 +156,7 @@ module _ {A : Type 0} where
   pub record SameTerms (old new : Client A) : Type 0 where
     pub format : format_of new ≡ format_of old
     pub ending : ending_of new ≡ ending_of old
+    pub agent : agent_of new ≡ agent_of old
     pub caps : caps_of new ≡ caps_of old
 
   -- a client that could ask asks this request
@@ -163,7 +167,7 @@ module _ {A : Type 0} where
     pub keeps : request_of new ≡ Some request
     pub reader : reader_of new ≡ reader_of old
     pub format : request_format request ≡ format_of old
-    pub writes : left_to_write writer request ≡ written_of request (caps_of old)
+    pub writes : left_to_write writer request ≡ written_of request (caps_of old) (agent_of old)
 
   -- its state then
   stands_asking : (t : Terms) (h : History) (old new : Client A) (request : Request A) (writer : RequestWriter) (c : Converses t h old)
@@ -197,18 +201,20 @@ module _ {A : Type 0} where
       let caps = caps_of old in
       let asked = h.asked ++ asked_of request ∷ [] in
       let stays : h.left ≡ false = c.left ∙ ap has_left_in b.was in
-      let spoken : h.given ++ [] ≡ spelled (sent_of t.format caps h.asked false) =
+      let spoken : h.given ++ [] ≡ spelled (sent_of t caps h.asked false) =
       ap (λ (phase : Phase). h.given ++ spelled (left_in phase (request_of old))) (sym b.was) ∙ c.spoken
-      ∙ ap (λ (left : Bool). spelled (sent_of t.format caps h.asked left)) stays in
-      let written : left_to_send new ≡ lines_written caps.agent caps.object_format t.format (asked_of request) =
+      ∙ ap (λ (left : Bool). spelled (sent_of t caps h.asked left)) stays in
+      let written : left_to_send new ≡ lines_written (named_if caps.agent t.agent) caps.object_format t.format (asked_of request) =
       ap (λ (phase : Phase). left_in phase (request_of new)) b.now ∙ ap (left_in (Asking writer)) b.keeps ∙ b.writes
-      ∙ ap (λ (format : Format). lines_written caps.agent caps.object_format format (asked_of request)) (b.format ∙ c.format_is) in
+      ∙ ap (λ (format : Format). lines_written (named_if caps.agent (agent_of old)) caps.object_format format (asked_of request)) (b.format ∙ c.format_is)
+      ∙ ap (λ (agent : Agent). lines_written (named_if caps.agent agent) caps.object_format t.format (asked_of request)) c.agent_is in
       record {
         given = c.given;
         rest = c.rest;
         clean = c.clean;
         format_is = b.terms.format ∙ c.format_is;
         ending_is = b.terms.ending ∙ c.ending_is;
+        agent_is = b.terms.agent ∙ c.agent_is;
         reads = subst (λ (reader : PacketReader). Reads reader 0 h.used c.given c.rest) (sym b.reader) c.reads;
         whole = c.whole;
         gives = gives_more t h.asked (asked_of request ∷ []) [] c.clean c.whole c.gives;
@@ -216,9 +222,9 @@ module _ {A : Type 0} where
         notes = b.terms.caps ∙ c.notes;
         stands = stands_asking t h old new request writer c b;
         left = stays ∙ sym (ap has_left_in b.now);
-        spoken = ap (λ (l : List Pkt). h.given ++ spelled l) written ∙ stated_more t.format caps h.asked (asked_of request) h.given spoken
-            ∙ ap (λ (left : Bool). spelled (sent_of t.format caps asked left)) (sym stays)
-            ∙ ap (λ (noted : Caps). spelled (sent_of t.format noted asked h.left)) (sym b.terms.caps);
+        spoken = ap (λ (l : List Pkt). h.given ++ spelled l) written ∙ stated_more t caps h.asked (asked_of request) h.given spoken
+            ∙ ap (λ (left : Bool). spelled (sent_of t caps asked left)) (sym stays)
+            ∙ ap (λ (noted : Caps). spelled (sent_of t noted asked h.left)) (sym b.terms.caps);
       }
 
   -- the request's writer has put its next packet into the hold
@@ -254,6 +260,7 @@ module _ {A : Type 0} where
         clean = c.clean;
         format_is = b.terms.format ∙ c.format_is;
         ending_is = b.terms.ending ∙ c.ending_is;
+        agent_is = b.terms.agent ∙ c.agent_is;
         reads = b.reader.reads 0 h.used c.given c.rest c.reads;
         whole = c.whole;
         gives = c.gives;
@@ -270,7 +277,7 @@ module _ {A : Type 0} where
             ∙ ap (λ (l : List ℕ). h.given ++ (l ++ spelled later)) (b.held ∙ b.puts.written)
             ∙ ap (λ (l : List Pkt). h.given ++ spelled (b.puts.packet ∷ l)) left
             ∙ ap (λ (l : List Pkt). h.given ++ spelled l) (sym (left_of old request writer b.was b.kept ∙ b.puts.first)) ∙ c.spoken
-            ∙ ap (λ (noted : Caps). spelled (sent_of t.format noted h.asked h.left)) (sym b.terms.caps);
+            ∙ ap (λ (noted : Caps). spelled (sent_of t noted h.asked h.left)) (sym b.terms.caps);
       }
 
   gives_next : (old new : Client A) (request : Request A) (writer next : RequestWriter) (bytes : List ℕ) → PutsNext old request writer next bytes new
@@ -334,12 +341,12 @@ module _ {A : Type 0} where
             let goes : Goes t h.asked c.clean c.given c.rest (question_in (request_of old)) Ready (reader_of old) =
             subst (λ (phase : Phase). StandsIn phase t h.asked c.clean c.given c.rest (length h.used) (question_in (request_of old)) (reader_of old))
             was c.stands in
-            let questions = questions_of t.format (caps_of old) h.asked in
+            let questions = questions_of t (caps_of old) h.asked in
             let asked : h.given ≡ spelled questions =
             sym (append-nil h.given)
             ∙ ap (λ (phase : Phase). h.given ++ spelled (left_in phase (request_of old))) (sym was)
             ∙ c.spoken
-            ∙ ap (λ (left : Bool). spelled (sent_of t.format (caps_of old) h.asked left)) (c.left ∙ ap has_left_in was)
+            ∙ ap (λ (left : Bool). spelled (sent_of t (caps_of old) h.asked left)) (c.left ∙ ap has_left_in was)
             ∙ ap spelled (append-nil questions) in
             record {
               given = c.given;
@@ -347,6 +354,7 @@ module _ {A : Type 0} where
               clean = c.clean;
               format_is = terms.format ∙ c.format_is;
               ending_is = terms.ending ∙ c.ending_is;
+              agent_is = terms.agent ∙ c.agent_is;
               reads = subst (λ (r : PacketReader). Reads r 0 h.used c.given c.rest) (sym reader) c.reads;
               whole = c.whole;
               gives = c.gives;
@@ -364,7 +372,7 @@ module _ {A : Type 0} where
               spoken = ap (λ (phase : Phase). h.given ++ spelled (left_in phase (request_of new))) now
                   ∙ ap (λ (l : List ℕ). l ++ spelled (flush ∷ [])) asked
                   ∙ sym (flat_map-append spelling_of questions (flush ∷ []))
-                  ∙ ap (λ (noted : Caps). spelled (sent_of t.format noted h.asked true)) (sym terms.caps);
+                  ∙ ap (λ (noted : Caps). spelled (sent_of t noted h.asked true)) (sym terms.caps);
             };
         has_unsent = ap (λ (phase : Phase). left_in phase (request_of new)) now;
         no_more = ap has_left_in now;

@@ -45,6 +45,7 @@ module _ {A : Type 0} (s : Client A) where
     format = s.format;
     of_any_format = s.of_any_format;
     ending = s.ending;
+    agent = s.agent;
     phase = s.phase;
     caps = s.caps;
     request = s.request;

@@ -28,7 +28,7 @@ use Rattle.git_client.specs.Opened.{events_on}
 use Rattle.git_client.specs.Machine.Turns.{fault_in, is_ready, takes_packets, place_expected, phase_after, phase_after_response, phase_in}
 use Rattle.git_client.specs.Machine.Turns.{events_at, Fits, IsTurn, Judges}
 use Rattle.git_client.specs.Machine.Client.{Comes, Takes, LeavesStep, StandsAfter, phase_judged, outcome_judged, outcome_sent, IsMessage}
-use Rattle.git_client.specs.Machine.Client.{Settles, format_of, is_of_any_format, ending_of, caps_of, phase_of, reader_of, content_last}
+use Rattle.git_client.specs.Machine.Client.{Settles, format_of, ending_of, caps_of, phase_of, reader_of, content_last}
 use Rattle.git_client.specs.declared.events.Ending.{Ending}
 use Rattle.git_client.specs.declared.events.Ending.TheVariants.{FlushOnly, ResponseEnd as WithResponseEnd}
 use Rattle.git_client.specs.declared.phase.Phase.{Phase}
@@ -46,7 +46,7 @@ use Rattle.git_client.proofs.PlaceLines.{line_is, band_is}
 use Rattle.git_client.proofs.PlacePackets.{one_if, stated_by, stated_if, stated_unless}
 use Rattle.git_client.proofs.Refusals.{AnnouncesFault, is_own, why_refused}
 use Rattle.git_client.proofs.Reached.{Reaches, reach_bands, reach_lines}
-use Rattle.git_client.proofs.Carries.{goes_on, ReceivesOnePacket, ReceivesBytes, receives_packet, receives_parts, receives_refused, receives_failed}
+use Rattle.git_client.proofs.Carries.{goes_on, KeepsTerms, ReceivesOnePacket, ReceivesBytes, receives_packet, receives_parts, receives_refused, receives_failed}
 
 -- after a packet without an error the client receives more or can ask
 pub goes_after : (ending : Ending) (expected : Expected) (p : Pkt) → goes_on (phase_after ending expected p) ≡ true
@@ -169,7 +169,7 @@ module _ {A : Type 0} where
         comes = comes found body used chunk new content b.held.body judged.fits;
         arrives = receives_packet old new expected (take used chunk) g found turn b judged goes now;
         leaves = leaves found used chunk new content some b.shut (subst (StandsOn found) (sym now) (stands_after found body (phase_in turn) goes turns));
-        any = b.bytes.any;
+        any = b.bytes.terms.any;
         fits = events_fit (format_of old) (ending_of old) (place_expected (caps_of old) (format_of old) expected)
             g.packet (events_at found body) judged.gives b.held.fits;
       }
@@ -186,36 +186,32 @@ module _ {A : Type 0} where
         comes = refl;
         arrives = receives_refused old new expected (take used chunk) g kind b judged failed caps;
         leaves = (ap fault_in failed, shown_by_packet g.packet (record { kind = kind; offset = g.offset }) used chunk why);
-        any = b.bytes.any;
+        any = b.bytes.terms.any;
         fits = omega arith;
       }
 
   -- the bytes that `feed` used, with what it returned for them
   pub fed_bytes : (old read : Client A) (expected : Expected) (chunk : List ℕ) (fed : Fed) (got : Got) → phase_of old ≡ Receiving expected → expected ≢ Packfile
-      → format_of read ≡ format_of old → is_of_any_format read ≡ is_of_any_format old → ending_of read ≡ ending_of old
+      → KeepsTerms old read
       → Feeds (reader_of old) chunk fed (reader_of read) → fed.got ≡ got
       → ReceivesBytes old read expected (take fed.used chunk) (given_by got) []
-  fed_bytes old read expected chunk fed got receiving other format any ending feeds is = record {
+  fed_bytes old read expected chunk fed got receiving other terms feeds is = record {
     receiving = receiving;
     reaches = reach_lines old expected (take fed.used chunk) (given_by got) (reader_of read) receiving other
         (subst (λ (got : Got). ReadsOn (reader_of old) (take fed.used chunk) (given_by got) (reader_of read)) is feeds.reads);
-    format = format;
-    any = any;
-    ending = ending;
+    terms = terms;
   }
 
   -- and those that `feed_band` used
   pub fed_bands : (old read : Client A) (chunk : List ℕ) (fed : BandFed) (got : BandGot) → phase_of old ≡ Receiving Packfile
-      → format_of read ≡ format_of old → is_of_any_format read ≡ is_of_any_format old → ending_of read ≡ ending_of old
+      → KeepsTerms old read
       → FeedsBand (reader_of old) chunk fed (reader_of read) → fed.got ≡ got
       → ReceivesBytes old read Packfile (take fed.used chunk) (announced_by got) (events_on (part_of got))
-  fed_bands old read chunk fed got receiving format any ending feeds is = record {
+  fed_bands old read chunk fed got receiving terms feeds is = record {
     receiving = receiving;
     reaches = reach_bands old (take fed.used chunk) (announced_by got) (part_of got) (reader_of read) receiving
         (subst (λ (got : BandGot). ReadsBandsOn (reader_of old) (take fed.used chunk) (announced_by got) (part_of got) (reader_of read)) is feeds.reads);
-    format = format;
-    any = any;
-    ending = ending;
+    terms = terms;
   }
 
   -- a packet was read whole, and is in the hold
@@ -229,15 +225,13 @@ module _ {A : Type 0} where
 
   -- the steps after it do not change the reader
   packet_read : (old read new : Client A) (expected : Expected) (u : List ℕ) (g : Given) → ReadsPacket old read expected u g
-      → reader_of new ≡ reader_of read → format_of new ≡ format_of old → is_of_any_format new ≡ is_of_any_format old → ending_of new ≡ ending_of old
+      → reader_of new ≡ reader_of read → KeepsTerms old new
       → ReceivesOnePacket old new expected u g
-  packet_read old read new expected u g r same format any ending = record {
+  packet_read old read new expected u g r same terms = record {
     bytes = record {
       receiving = r.receiving;
       reaches = subst (Reaches old expected u (g ∷ []) []) (sym same) r.reaches;
-      format = format;
-      any = any;
-      ending = ending;
+      terms = terms;
     };
     sound = ap reader_fault_of same ∙ r.sound;
     shut = ap is_open same ∙ r.shut;
@@ -295,11 +289,15 @@ module _ {A : Type 0} where
   pub settled : (old read new : Client A) (expected : Expected) (chunk : List ℕ) (used : ℕ) (g : Given) (judged : Result Turn Kind)
       (outcome : Outcome) → ReadsPacket old read expected (take used chunk) g → used ≤ length chunk
       → Judges (format_of old) (ending_of old) expected (caps_of old) g.packet (content_last read) (caps_of read) judged
-      → format_of read ≡ format_of old → is_of_any_format read ≡ is_of_any_format old → ending_of read ≡ ending_of old
+      → KeepsTerms old read
       → Settles read judged g.offset outcome new → Takes old chunk (record { used = used; outcome = outcome }) new
-  settled old read new expected chunk used g judged outcome r within found format any ending settles =
-      let arrives = packet_read old read new expected (take used chunk) g r settles.reader (settles.format ∙ format) (settles.any ∙ any)
-      (settles.ending ∙ ending) in
+  settled old read new expected chunk used g judged outcome r within found terms settles =
+      let arrives = packet_read old read new expected (take used chunk) g r settles.reader (record {
+        format = settles.format ∙ terms.format;
+        any = settles.any ∙ terms.any;
+        ending = settles.ending ∙ terms.ending;
+        agent = settles.agent ∙ terms.agent;
+      }) in
       let judges = subst (λ (c : Caps). Judges (format_of old) (ending_of old) expected (caps_of old) g.packet (content_last read) c judged)
       (sym settles.caps) found in
       subst (λ (outcome : Outcome). Takes old chunk (record { used = used; outcome = outcome }) new) (sym settles.announces)
@@ -315,7 +313,7 @@ module _ {A : Type 0} where
     comes = refl;
     arrives = receives_failed old new expected (take used chunk) f b announced now caps;
     leaves = (ap fault_in now, shown);
-    any = b.any;
+    any = b.terms.any;
     fits = omega arith;
   }
 
@@ -328,7 +326,7 @@ module _ {A : Type 0} where
     comes = refl;
     arrives = receives_parts old new expected (take used chunk) [] b sound now caps;
     leaves = (ap takes_packets now, λ some. omega (arith, all, some));
-    any = b.any;
+    any = b.terms.any;
     fits = omega arith;
   }
 
@@ -349,18 +347,18 @@ module _ {A : Type 0} where
     );
     arrives = receives_parts old new Packfile (take used chunk) (events_on (map (on band) bytes)) b part.no_fault now caps;
     leaves = (part.uses, ap takes_packets now);
-    any = b.any;
+    any = b.terms.any;
     fits = omega (arith, parts_on band bytes, part.fits);
   }
 
   -- all of a packet whose bytes pass, or a part of it
   pub taken_band : (old read : Client A) (chunk : List ℕ) (fed : BandFed) (band : Band) (bytes : Bor (List ℕ)) (count : ℕ)
-      → phase_of old ≡ Receiving Packfile → format_of read ≡ format_of old → is_of_any_format read ≡ is_of_any_format old → ending_of read ≡ ending_of old
+      → phase_of old ≡ Receiving Packfile → KeepsTerms old read
       → FeedsBand (reader_of old) chunk fed (reader_of read) → fed.got ≡ BandPartGot band bytes → length bytes.now ≡ count
       → phase_of read ≡ Receiving Packfile → caps_of read ≡ caps_of old
       → Takes old chunk (record { used = fed.used; outcome = PassedNow (record { band = band; count = count }) }) read
-  taken_band old read chunk fed band bytes count receiving format any ending feeds is long now caps =
+  taken_band old read chunk fed band bytes count receiving terms feeds is long now caps =
       let announces : AnnouncesBand (BandPartGot band bytes) fed.used chunk (reader_of read) =
       subst (λ (got : BandGot). AnnouncesBand got fed.used chunk (reader_of read)) is feeds.announces in
       taken_part old read chunk fed.used band bytes.now count
-      (fed_bands old read chunk fed (BandPartGot band bytes) receiving format any ending feeds is) announces.0 announces.1 long now caps
+      (fed_bands old read chunk fed (BandPartGot band bytes) receiving terms feeds is) announces.0 announces.1 long now caps

@@ -11,7 +11,7 @@ use Rattle.git_pkt.proofs.Streams.{one_split}
 use Rattle.git_msg.specs.Asked.{Asked}
 use Rattle.git_msg.specs.Machine.HeldRequest.{asked_of}
 use Rattle.git_msg.specs.declared.requests.Request.{Request}
-use Rattle.git_client.specs.Parts.{Terms, terms_of, closing, answer_to, nearest, message_of, part_after}
+use Rattle.git_client.specs.Parts.{Terms, in_format, closing, answer_to, nearest, message_of, part_after}
 use Rattle.git_client.specs.Places.{place_after, place_of}
 use Rattle.git_client.specs.Events.{EventValue}
 use Rattle.git_client.specs.Conversation.{FirstFault, GiveAll, HasExpected}
@@ -251,7 +251,7 @@ module _ {A : Type 0} where
       → MakesAll MakesAny calls before old after new → Converses t h old → IsTruncated old → IsTruncated new
   all_stay t [] h before old after new (counter, same) c cut = subst IsTruncated (sym same) cut
   all_stay t (choose format ∷ calls) h before old after new (next, between, (chosen, is, counter), more) c cut =
-      all_stay (terms_of format t.ending) calls h next between after new more (chosen_on t format h old between chosen is c)
+      all_stay (in_format format t) calls h next between after new more (chosen_on t format h old between chosen is c)
       (subst IsOfTheEnd (errors_stay old between chosen) cut)
   all_stay t (other call ∷ calls) h before old after new (next, between, made, more) c cut =
       all_stay t calls (after_call h call) next between after new more (goes_on t call h before old next between made c)
@@ -275,7 +275,7 @@ module _ {A : Type 0} where
       → MakesAll MakesAny calls before old after new → Converses t h old → closes (others_of calls) ≡ true → IsTruncated new
   where_closed t [] h before old after new made c e = absurd (cc)
   where_closed t (choose format ∷ calls) h before old after new (next, between, (chosen, is, counter), more) c e =
-      where_closed (terms_of format t.ending) calls h next between after new more (chosen_on t format h old between chosen is c) e
+      where_closed (in_format format t) calls h next between after new more (chosen_on t format h old between chosen is c) e
   where_closed t (other call ∷ calls) h before old after new (next, between, made, more) c e =
       let d = goes_on t call h before old next between made c in
       elim (closes_first call (others_of calls) e) [

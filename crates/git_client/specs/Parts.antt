@@ -3,17 +3,28 @@ use Rattle.std.specs.Prelude.{ℕ, suc, zero, Bool, true, false, not, List, [], 
 use Rattle.git_names.specs.declared.object_format.Format.{Format}
 use Rattle.git_pkt.specs.Packets.{Pkt, flush, delim, resp_end, payload, flushes}
 use Rattle.git_pkt.specs.Splits.{Given}
+use Rattle.git_msg.specs.Agents.{own_agent}
 use Rattle.git_msg.specs.Asked.{Asked, ls_refs, fetch, object_info, done_in}
+use Rattle.git_msg.specs.declared.agent.Agent.{Agent}
 use Rattle.git_client.specs.declared.events.Ending.{Ending}
 use Rattle.git_client.specs.declared.events.Ending.TheVariants.{ResponseEnd}
 
--- the constants of a conversation: the format of its object names, and how each response ends
+-- the constants of a conversation: the format of its object names, how each response ends, and the agent that the client names
 pub record Terms : Type 0 where
   pub format : Format
   pub ending : Ending
+  pub agent : Agent
 
+abbrev pub terms_by : Agent → Format → Ending → Terms
+terms_by agent format ending = record { format = format; ending = ending; agent = agent }
+
+-- the constants where the client names this library's own agent
 abbrev pub terms_of : Format → Ending → Terms
-terms_of format ending = record { format = format; ending = ending }
+terms_of = terms_by own_agent
+
+-- the constants of the same conversation in another format
+abbrev pub in_format : Format → Terms → Terms
+in_format format t = terms_by t.agent format t.ending
 
 -- the packets of a list, the last one first, after those that were there before
 abbrev pub nearest : List Given → List Pkt → List Pkt

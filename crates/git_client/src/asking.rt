@@ -32,7 +32,7 @@ impl<A: Allocator + Copy> Client<A> {
         match self.check(&request) {
             Ok(()) => {
                 let _ = request.kept();
-                self.phase = Phase::Asking(RequestWriter::new(&request, &self.caps));
+                self.phase = Phase::Asking(RequestWriter::new(&request, &self.caps, self.agent));
                 self.request = Some(request);
                 Ok(())
             }

@@ -10,7 +10,7 @@ ghost use Rattle.git_client.specs.Machine.Choosing.{format_by, is_advertised, is
 use crate::client::Client;
 use crate::events::Ending;
 use crate::phase::{Expected, Phase};
-use git_msg::Caps;
+use git_msg::{Agent, Caps};
 use git_names::Format;
 use std::alloc::Allocator;
 
@@ -18,15 +18,15 @@ impl<A: Allocator + Copy> Client<A> {
     ghost use Rattle.git_client.specs.Machine.Client.{Converses, History, is_of_any_format, nothing_yet, reader_of, wants_input};
     ghost use Rattle.git_client.specs.Machine.Choosing.{ChoosesFormat, format_known};
 
-    /// A client of any object format, before the first byte of the advertisement. Call [`Client::choose_format`] before each
-    /// [`Client::feed`]; until then its format is SHA-1.
+    /// A client of any object format that names this library's own agent, before the first byte of the advertisement. Call
+    /// [`Client::choose_format`] before each [`Client::feed`]; until then its format is SHA-1.
     pub fn new_of_any_format(ending: Ending) -> Self
         ensures converses { Converses (terms_of Format.Sha1 ending) nothing_yet result }
         ensures waits { wants_input result ≡ true }
         ensures credit { credit_of (reader_of result) ≡ 0 }
         ensures any { is_of_any_format result ≡ true }
     {
-        Client::begin(Format::Sha1, true, ending)
+        Client::with_agent(Agent::own(), None, ending)
     }
 
     /// Chooses the object format of a client of any format, by the lines of the advertisement so far: SHA-1 if they name it or name

@@ -16,7 +16,7 @@
 //! ```
 
 ghost use Rattle.std.specs.Prelude.{◌≡◌, ◌≢◌, ◌+◌, ◌-◌, ◌≤◌, ◌<◌, ◌↔◌, IsTrue, ℕ, suc, List, [], ◌∷◌, None, Err, true, false, length, take, drop};
-ghost use Rattle.std.specs.Prelude.{IfSome, MatchOption, ◌*◌};
+ghost use Rattle.std.specs.Prelude.{IfSome, MatchOption, ◌*◌, is_none, unwrap_or};
 ghost use Rattle.std.specs.Option.{ForSome};
 ghost use Rattle.std.specs.Borrow.{sem};
 ghost use Rattle.git_msg.specs.Machine.HeldRequest.{format_of as request_format, kept_of, limit_of, stored_of};
@@ -27,7 +27,7 @@ ghost use Rattle.git_pkt.specs.Packets.{longest_payload};
 ghost use Rattle.git_pkt.specs.Splits.{Given, Splits};
 ghost use Rattle.git_pkt.specs.Machine.BandReader.{MayPass};
 ghost use Rattle.git_pkt.specs.Machine.PacketReader.{fault_of as reader_fault_of, held_of, is_open, passes_of};
-ghost use Rattle.git_client.specs.Parts.{Terms, terms_of};
+ghost use Rattle.git_client.specs.Parts.{Terms, terms_by, terms_of};
 ghost use Rattle.git_client.specs.Machine.Turns.{takes_packets, fault_in, is_asking, left_in, Fits, LiesIn, events_at, value_at, values_of, capability_value};
 ghost use Rattle.git_client.specs.Machine.HandedOut.{HandsOut, HasPart, IsLent, Shows};
 ghost use Rattle.git_client.specs.Machine.Turns.{takes_bands, wanted_at};
@@ -40,7 +40,7 @@ ghost use Rattle.git_client.specs.declared.events.Ending.{Ending};
 use crate::events::{Ending, Event, Received, ReceivedGot};
 use crate::judge::judge;
 use crate::phase::{CapabilityPlaces, Expected, LineContent, Phase, Turn};
-use git_msg::{Capability, Caps, ReferencePlaces, Request, error_message};
+use git_msg::{Agent, Capability, Caps, ReferencePlaces, Request, error_message};
 use git_names::{Format, Oid, Steps};
 use git_pkt::{Band, BandGot, Fault, Got, Kind, Packet, PacketReader, text};
 use std::alloc::Allocator;
@@ -117,6 +117,8 @@ pub struct Client<A: Allocator + Copy> {
     // Whether the client takes the object format that the server advertises.
     pub(crate) of_any_format: bool,
     pub(crate) ending: Ending,
+    // The name with which each request introduces the client, if the server names its own.
+    pub(crate) agent: Agent,
     pub(crate) phase: Phase,
     pub(crate) caps: Caps,
     // The request whose packets have to be sent.
@@ -141,28 +143,30 @@ impl<A: Allocator + Copy> Client<A> {
     ghost use Rattle.git_client.specs.Machine.Choosing.{may_choose};
     ghost use Rattle.git_client.specs.contracts.client.Client.{the_row};
 
-    /// A client of this object format, before the first byte of the advertisement.
+    /// A client of this object format that names this library's own agent, before the first byte of the advertisement.
     pub fn new(format: Format, ending: Ending) -> Self
         ensures converses { Converses (terms_of format ending) nothing_yet result }
         ensures waits { wants_input result ≡ true }
         ensures credit { credit_of (reader_of result) ≡ 0 }
         ensures given { is_of_any_format result ≡ false }
     {
-        Client::begin(format, false, ending)
+        Client::with_agent(Agent::own(), Some(format), ending)
     }
 
-    /// A client before the first byte of the advertisement, which has this object format for now if it is of any format.
-    pub(crate) fn begin(format: Format, of_any_format: bool, ending: Ending) -> Self
-        ensures converses { Converses (terms_of format ending) nothing_yet result }
+    /// A client that names this agent in each request to a server that names its own, before the first byte of the advertisement. With no
+    /// object format it is of any format, as by [`Client::new_of_any_format`].
+    pub fn with_agent(agent: Agent, format: Option<Format>, ending: Ending) -> Self
+        ensures converses { Converses (terms_by agent (unwrap_or format Format.Sha1) ending) nothing_yet result }
         ensures waits { wants_input result ≡ true }
         ensures credit { credit_of (reader_of result) ≡ 0 }
-        ensures any { is_of_any_format result ≡ of_any_format }
+        ensures any { is_of_any_format result ≡ is_none format }
     {
         Client {
             reader: PacketReader::new(),
-            format,
-            of_any_format,
+            format: format.unwrap_or(Format::Sha1),
+            of_any_format: format.is_none(),
             ending,
+            agent,
             phase: Phase::Receiving(Expected::Version),
             caps: Caps::new(),
             request: None,

@@ -125,7 +125,7 @@ pub fn later_questions()
 /// A client that has nothing to send has sent exactly the written form of each request, and the flush if it has left.
 pub fn all_is_sent<A: Allocator + Copy>()
     ensures { (t : Terms) (h : History) (client : Client A)
-        → Converses t h client → left_to_send client ≡ [] → h.given ≡ spelled (sent_of t.format (caps_of client) h.asked h.left) }
+        → Converses t h client → left_to_send client ≡ [] → h.given ≡ spelled (sent_of t (caps_of client) h.asked h.left) }
 {}
 
 /// Bytes have one pack.

@@ -4,6 +4,7 @@ use Rattle.git_names.specs.declared.object_format.Format.{Format}
 use Rattle.git_pkt.specs.Packets.{Pkt, flush, flushes}
 use Rattle.git_pkt.specs.Splits.{Given, SpellsAll}
 use Rattle.git_pkt.proofs.Streams.{spells_all_more}
+use Rattle.git_msg.specs.Agents.{own_agent}
 use Rattle.git_msg.specs.Advertisement.{everything, noted_of}
 use Rattle.git_msg.specs.Asked.{Asked}
 use Rattle.git_msg.specs.Lines.{IsFormatMeant}
@@ -105,7 +106,7 @@ past_flush (p ∷ ps) (line ∷ lines) more back e clear some =
 -- the lines of the advertisement that offers everything
 abbrev lines_all : Format → List Pkt
 lines_all format =
-    text_line (codes "version 2") ∷ agent_line ∷ ls_refs_line (everything format) ∷ fetch_line (everything format)
+    text_line (codes "version 2") ∷ agent_line own_agent ∷ ls_refs_line (everything format) ∷ fetch_line (everything format)
     ∷ text_line (codes "server-option") ∷ format_line format ∷ text_line (codes "object-info") ∷ []
 
 all_lines : (format : Format) → server_sends (everything format) ≡ lines_all format ++ flush ∷ []

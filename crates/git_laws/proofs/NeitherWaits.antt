@@ -13,6 +13,8 @@ use Rattle.git_pkt.specs.declared.fault.Kind.{Kind}
 use Rattle.git_pkt.specs.declared.fault.Kind.TheVariants.{StreamTooLong, Truncated}
 use Rattle.git_pkt.proofs.Rests.{fault_longer, not_open_and_faulty}
 use Rattle.git_pkt.proofs.Streams.{one_split}
+use Rattle.git_msg.specs.Agents.{named_if, own_agent}
+use Rattle.git_msg.specs.declared.agent.Agent.{Agent}
 use Rattle.git_msg.specs.Advertisement.{everything}
 use Rattle.git_msg.specs.Asked.{Asked, HasValues}
 use Rattle.git_msg.specs.Lines.{IsFormatMeant}
@@ -148,7 +150,8 @@ module _ {R A : Type 0} (state : R → RepoState) (format : Format) (limit : ℕ
     have_values : HaveValues h.asked
     have_values = All-weaker (HasValues format) (λ (q : Asked). (f : Format) × HasValues f q) (λ q is. (format, is)) h.asked values
 
-    client_sends : agree.used ++ (now.to_server ++ spelled (left_to_send now.client)) ≡ spelled (sent_of format (caps_of now.client) h.asked h.left)
+    client_sends : agree.used ++ (now.to_server ++ spelled (left_to_send now.client))
+        ≡ spelled (sent_of (terms_with format) (caps_of now.client) h.asked h.left)
     client_sends =
         sym (append_assoc agree.used now.to_server (spelled (left_to_send now.client)))
         ∙ ap (λ (l : List ℕ). l ++ spelled (left_to_send now.client)) (sym agree.sent) ∙ agree.converses.spoken
@@ -163,18 +166,18 @@ module _ {R A : Type 0} (state : R → RepoState) (format : Format) (limit : ℕ
           now.to_client g.report g.fit g.parts client_receives
 
       -- the bytes that it sent are the written form of the requests
-      wrote : (writes_agent : Bool) × (writes_format : Bool) × IsFormatMeant format writes_format
+      wrote : (writes_agent : Option Agent) × (writes_format : Bool) × IsFormatMeant format writes_format
           × (agree.used ++ (now.to_server ++ spelled (left_to_send now.client))
           ≡ spelled (written_all writes_agent writes_format format h.asked ++ farewell h.left))
       wrote = elim agree.in_turn [
         | inl none ↦ (
-          true,
+          None,
           true,
           meant_when_stated format,
-          client_sends ∙ ap (λ (l : List Asked). spelled (questions_of format (caps_of now.client) l ++ farewell h.left)) none
-              ∙ ap (λ (l : List Asked). spelled (written_all true true format l ++ farewell h.left)) (sym none),
+          client_sends ∙ ap (λ (l : List Asked). spelled (questions_of (terms_with format) (caps_of now.client) l ++ farewell h.left)) none
+              ∙ ap (λ (l : List Asked). spelled (written_all None true format l ++ farewell h.left)) (sym none),
         )
-        | inr o ↦ ((caps_of now.client).agent, (caps_of now.client).object_format, meant o, client_sends)
+        | inr o ↦ (named_if (caps_of now.client).agent own_agent, (caps_of now.client).object_format, meant o, client_sends)
       ]
 
       -- the requests that the server read are the first ones that were asked

@@ -1,5 +1,5 @@
 -- What a play that ended well gives.
-use Rattle.std.proofs.Common.{arith, ◌≡◌, ℕ, Bool, true, false, All, flat_map, map, List, [], ◌∷◌, ◌++◌, Option, IfSome, Ok}
+use Rattle.std.proofs.Common.{arith, ◌≡◌, ℕ, Bool, true, false, All, flat_map, map, List, [], ◌∷◌, ◌++◌, Option, None, IfSome, Ok}
 use Rattle.std.proofs.Common.{refl, ap, sym, ◌∙◌, subst}
 use Rattle.std.specs.List.{filter_map}
 use Rattle.std.proofs.lemmas.List.{append-nil, append_cancel_right}
@@ -8,6 +8,8 @@ use Rattle.git_names.specs.ObjectName.{ObjectName}
 use Rattle.git_names.specs.declared.object_format.Format.{Format}
 use Rattle.git_pkt.specs.Packets.{Pkt, flush, resp_end}
 use Rattle.git_pkt.specs.Splits.{Given}
+use Rattle.git_msg.specs.Agents.{named_if}
+use Rattle.git_msg.specs.declared.agent.Agent.{Agent}
 use Rattle.git_msg.specs.declared.arguments.Command.{Command}
 use Rattle.git_msg.specs.declared.arguments.Command.TheVariants.{LsRefs, Fetch, ObjectInfo}
 use Rattle.git_msg.specs.declared.offers.Caps.{Caps}
@@ -29,7 +31,7 @@ use Rattle.git_msg.proofs.WholeRequests.{lines_have_no_flush}
 use Rattle.git_client.specs.Machine.Client.{History, questions_of, sent_of, spelled}
 use Rattle.git_client.specs.Conversation.{GiveAll, HasNoted, IsConversation, Sounds}
 use Rattle.git_client.specs.Events.{EventValue, pack_bytes}
-use Rattle.git_client.specs.Parts.{Terms, advertisement_of, nearest, terms_of}
+use Rattle.git_client.specs.Parts.{Terms, advertisement_of, nearest, terms_by, terms_of}
 use Rattle.git_client.specs.Transcript.{transcript_of}
 use Rattle.git_client.specs.declared.events.Ending.{Ending}
 use Rattle.git_client.specs.declared.events.Ending.TheVariants.{FlushOnly, ResponseEnd}
@@ -89,8 +91,9 @@ pub offers_all : (format : Format) (arg : Arg) → is_offered (everything format
 offers_all format arg = offers_word format (word_of arg)
 
 -- of the written requests, the server has read and answered exactly these
-pub stream_asks : (format : Format) (ending : Ending) (limit : ℕ) (state : RepoState) (advertise writes_agent writes_format : Bool) (asked : List Asked)
-    {used given : List ℕ} → IsFormatMeant format writes_format → HaveValues asked → used ≡ spelled (written_all writes_agent writes_format format asked)
+pub stream_asks : (format : Format) (ending : Ending) (limit : ℕ) (state : RepoState) (advertise : Bool) (writes_agent : Option Agent) (writes_format : Bool)
+    (asked : List Asked) {used given : List ℕ} → IsFormatMeant format writes_format → HaveValues asked
+    → used ≡ spelled (written_all writes_agent writes_format format asked)
     → (a : IsAnswered (setting_of (terms_of format ending) limit state advertise) used given) → (a.asked ≡ asked) × All (HasValues format) asked
 stream_asks format ending limit state advertise writes_agent writes_format asked {used} meant values e a =
     let ps = written_all writes_agent writes_format format asked in
@@ -156,7 +159,7 @@ events_announced t repo asked answers used events sound written same values are 
 abbrev HasOwn : Asked → Type 0
 HasOwn q = (format : Format) × HasValues format q
 
-module _ (format : Format) (limit : ℕ) (state : RepoState) where
+module _ (agent : Agent) (format : Format) (limit : ℕ) (state : RepoState) where
   -- the answers of servers that answer one request each
   record EachAnnounced (later : List Talk) (asked : List Asked) : Type 0 where
     packets : List Pkt
@@ -166,20 +169,20 @@ module _ (format : Format) (limit : ℕ) (state : RepoState) where
     in_format : All (HasValues format) asked
 
   abbrev silent : Setting
-  silent = setting_of (terms_of format ResponseEnd) limit state false
+  silent = setting_of (terms_by agent format ResponseEnd) limit state false
 
   each_announced : (caps : Caps) → IsFormatMeant format caps.object_format → (later : List Talk) (asked : List Asked)
-      → map (λ talk. talk.content) later ≡ sent_each (terms_of format ResponseEnd) caps asked
+      → map (λ talk. talk.content) later ≡ sent_each (terms_by agent format ResponseEnd) caps asked
       → All (λ talk. IsAnswered silent talk.content talk.given) later → HaveValues asked → EachAnnounced later asked
   each_announced caps meant [] [] content all values = record { packets = []; fit = tt; bytes = refl; are = refl; in_format = All-nil (HasValues format) }
   each_announced caps meant [] (q ∷ asked) content all values = absurd (cc)
   each_announced caps meant (talk ∷ later) [] content all values = absurd (cc)
   each_announced caps meant (talk ∷ later) (q ∷ asked) content all values =
-      let now : talk.content ≡ spelled (questions_of format caps (q ∷ [])) = cc in
-      let behind : map (λ talk. talk.content) later ≡ sent_each (terms_of format ResponseEnd) caps asked = cc in
+      let now : talk.content ≡ spelled (questions_of (terms_by agent format ResponseEnd) caps (q ∷ [])) = cc in
+      let behind : map (λ talk. talk.content) later ≡ sent_each (terms_by agent format ResponseEnd) caps asked = cc in
       let a = All-head (λ (talk : Talk). IsAnswered silent talk.content talk.given) talk later all in
       let one = All-cons HasOwn q [] (All-head HasOwn q asked values) (All-nil HasOwn) in
-      let read = stream_asks format ResponseEnd limit state false caps.agent caps.object_format (q ∷ []) meant one now a in
+      let read = stream_asks format ResponseEnd limit state false (named_if caps.agent agent) caps.object_format (q ∷ []) meant one now a in
       let (answer, more, parts, is, none) = subst (λ (l : List Asked). AreAnswers state.answers l a.answers) read.0 a.answered in
       let own : a.answers ≡ answer = simp (none, append-nil) at parts in
       let then = each_announced caps meant later asked behind (All-tail (λ (talk : Talk). IsAnswered silent talk.content talk.given) talk later all)
@@ -193,13 +196,13 @@ module _ (format : Format) (limit : ℕ) (state : RepoState) where
         in_format = All-cons (HasValues format) q asked (All-head (HasValues format) q [] read.1) then.in_format;
       }
 
-module _ {A : Type 0} (now : ℕ) (format : Format) (limit : ℕ) (state : RepoState) (sound : IsSound state.answers) (written : CanBeWritten state.answers)
-    (same : state.answers.format ≡ format) where
+module _ {A : Type 0} (now : ℕ) (agent : Agent) (format : Format) (limit : ℕ) (state : RepoState) (sound : IsSound state.answers)
+    (written : CanBeWritten state.answers) (same : state.answers.format ≡ format) where
   -- one server answers all requests
-  announced_by_flush : (rest : List (Request A)) (h : History) → HaveValues h.asked → IsWholePlay now (terms_of format FlushOnly) limit state rest h
+  announced_by_flush : (rest : List (Request A)) (h : History) → HaveValues h.asked → IsWholePlay now (terms_by agent format FlushOnly) limit state rest h
       → h.events ≡ announced_play format state.answers h.asked
   announced_by_flush rest h values p =
-      let t = terms_of format FlushOnly in
+      let t = terms_by agent format FlushOnly in
       let repo = state.answers in
       let caps = p.run.content.caps in
       let a = p.sessions.answered in
@@ -208,41 +211,41 @@ module _ {A : Type 0} (now : ℕ) (format : Format) (limit : ℕ) (state : RepoS
       let used : h.used ≡ spelled (offer ++ a.answers) = simp (content.0, append-nil) at p.served.gave ∙ a.given_is in
       let meant = meant_after t h.asked h.used (spelled a.answers) h.events caps p.run.whole p.run.content.noted (fit_front offer a.answers a.fit)
       (used ∙ spelled_both offer a.answers) in
-      let messages = written_all caps.agent caps.object_format format h.asked in
+      let messages = written_all (named_if caps.agent agent) caps.object_format format h.asked in
       let wrote : p.first.content ≡ spelled (messages ++ flush ∷ []) =
-      content.1 ∙ p.run.content.content ∙ ap (λ (left : Bool). spelled (sent_of format caps h.asked left)) p.run.leaves in
+      content.1 ∙ p.run.content.content ∙ ap (λ (left : Bool). spelled (sent_of t caps h.asked left)) p.run.leaves in
       let questions : p.sessions.questions ≡ spelled messages =
       append_cancel_right p.sessions.questions (spelled messages) (spelled (flush ∷ []))
       (sym p.sessions.parts ∙ wrote ∙ spelled_both messages (flush ∷ [])) in
-      let read = stream_asks format FlushOnly limit state true caps.agent caps.object_format h.asked meant values questions a in
+      let read = stream_asks format FlushOnly limit state true (named_if caps.agent agent) caps.object_format h.asked meant values questions a in
       let answered : AreAnswers repo h.asked a.answers = subst (λ (l : List Asked). AreAnswers repo l a.answers) read.0 a.answered in
       events_announced t repo h.asked a.answers h.used h.events sound written same read.1 (ended_by_flush repo h.asked a.answers answered) a.fit used
       p.run.whole
 
   -- the first server only advertises, and each request has a server of its own
-  announced_by_ends : (rest : List (Request A)) (h : History) → HaveValues h.asked → IsWholePlay now (terms_of format ResponseEnd) limit state rest h
+  announced_by_ends : (rest : List (Request A)) (h : History) → HaveValues h.asked → IsWholePlay now (terms_by agent format ResponseEnd) limit state rest h
       → h.events ≡ announced_play format state.answers h.asked
   announced_by_ends rest h values p =
-      let t = terms_of format ResponseEnd in
+      let t = terms_by agent format ResponseEnd in
       let repo = state.answers in
       let caps = p.run.content.caps in
       let content = p.served.content caps p.run.content.noted in
       let offer = server_sends (everything format) in
       let first = p.sessions.0 in
-      let none = stream_asks format ResponseEnd limit state true false true [] (meant_when_stated format) (All-nil HasOwn) content.0 first in
+      let none = stream_asks format ResponseEnd limit state true None true [] (meant_when_stated format) (All-nil HasOwn) content.0 first in
       let silence : first.answers ≡ [] = subst (λ (l : List Asked). AreAnswers repo l first.answers) none.0 first.answered in
       let only : offer ++ first.answers ≡ offer = rw silence (append-nil offer) in
       let fit : AllFit offer = subst AllFit only first.fit in
       let used : h.used ≡ spelled offer ++ flat_map with_end p.later =
       rw (append-nil h.used, first.given_is ∙ ap spelled only) at p.served.gave in
       let meant = meant_after t h.asked h.used (flat_map with_end p.later) h.events caps p.run.whole p.run.content.noted fit used in
-      let each = each_announced format limit state caps meant p.later h.asked content.1 p.sessions.1 values in
+      let each = each_announced agent format limit state caps meant p.later h.asked content.1 p.sessions.1 values in
       events_announced t repo h.asked each.packets h.used h.events sound written same each.in_format each.are (fit_both offer each.packets fit each.fit)
       (used ∙ ap (λ (bytes : List ℕ). spelled offer ++ bytes) each.bytes ∙ sym (spelled_both offer each.packets)) p.run.whole
 
   -- either ending
   announced_whole : (ending : Ending) (rest : List (Request A)) (h : History) → HaveValues h.asked
-      → IsWholePlay now (terms_of format ending) limit state rest h → h.events ≡ announced_play format state.answers h.asked
+      → IsWholePlay now (terms_by agent format ending) limit state rest h → h.events ≡ announced_play format state.answers h.asked
   announced_whole FlushOnly rest h values p = announced_by_flush rest h values p
   announced_whole ResponseEnd rest h values p = announced_by_ends rest h values p
 
@@ -263,7 +266,7 @@ as_announced {A = A} now t limit state requests done read given p sound written 
     let own : All (λ (request : Request A). HasOwn (asked_of request)) requests =
     All-weaker (λ (request : Request A). HasValues (format_of request) (asked_of request)) (λ (request : Request A). HasOwn (asked_of request))
     (λ request values. (format_of request, values)) requests values in
-    let events = announced_whole now t.format limit state sound written same t.ending p.rest h
+    let events = announced_whole now t.agent t.format limit state sound written same t.ending p.rest h
     (subst HaveValues (sym asked) (All-map HasOwn asked_of requests own)) p.ends in
     let announced = announced_play t.format repo in
     p.announced ∙ ap (λ (l : List EventValue). transcript_of h.asked l ∷ pack_bytes l ∷ []) events

@@ -13,11 +13,12 @@ use Rattle.git_msg.specs.Advertisement.{noted_of}
 use Rattle.git_msg.specs.Asked.{Asked}
 use Rattle.git_msg.specs.Texts.{IsErrorText}
 use Rattle.git_msg.specs.WrittenRequest.{text_line}
+use Rattle.git_msg.specs.declared.agent.Agent.{Agent}
 use Rattle.git_msg.specs.declared.offers.Caps.{Caps}
 use Rattle.git_client.specs.Machine.Client.{AreWhole, Behind, IsExpected, IsExpectedIn, awaits_end}
 use Rattle.git_client.specs.Conversation.{GiveAll, GivesAt}
 use Rattle.git_client.specs.Events.{EventValue, ended, ended_by, events_of_flush, pack, section, Gives, GivesLine}
-use Rattle.git_client.specs.Parts.{Terms, advertisement_of, message_of, nearest, terms_of}
+use Rattle.git_client.specs.Parts.{Terms, advertisement_of, message_of, nearest, terms_by}
 use Rattle.git_client.specs.Sections.{allows, section_named}
 use Rattle.git_client.specs.Machine.Turns.{NotesAfter, expected_after_header, phase_after, phase_after_response, place_expected}
 use Rattle.git_client.specs.declared.events.Ending.{Ending}
@@ -170,14 +171,14 @@ module _ (t : Terms) (asked : List Asked) where
       (subst (λ (q : Pkt). AnswerGives before (q ∷ (bands ++ ps)) (map pack part ++ (map pack more ++ later))) (sym same) one)
 
 -- the flush that ends an answer, and the response end after it if there is one
-pub end_gives : (format : Format) (ending : Ending) (asked : List Asked) (before : List Pkt) (expected : Expected) → MayEnd expected
-    → IsExpected (terms_of format ending) asked before expected → AnswerGives (terms_of format ending) asked before (flush ∷ end_packets ending) (ended ∷ [])
-end_gives format FlushOnly asked before expected may is =
-    let t = terms_of format FlushOnly in
+pub end_gives : (agent : Agent) (format : Format) (ending : Ending) (asked : List Asked) (before : List Pkt) (expected : Expected) → MayEnd expected
+    → let t = terms_by agent format ending in IsExpected t asked before expected → AnswerGives t asked before (flush ∷ end_packets ending) (ended ∷ [])
+end_gives agent format FlushOnly asked before expected may is =
+    let t = terms_by agent format FlushOnly in
     let (conveys, notes, after) = flush_ends FlushOnly (caps_at t asked before) format expected may in
     packet_gives t asked before expected flush (ended ∷ []) [] [] is conveys notes (λ behind. (refl, rw after at behind))
-end_gives format WithResponseEnd asked before expected may is =
-    let t = terms_of format WithResponseEnd in
+end_gives agent format WithResponseEnd asked before expected may is =
+    let t = terms_by agent format WithResponseEnd in
     let (conveys, notes, after) = flush_ends WithResponseEnd (caps_at t asked before) format expected may in
     packet_gives t asked before expected flush [] (resp_end ∷ []) (ended ∷ []) is conveys notes
     (λ behind. packet_gives t asked (flush ∷ before) ResponseEnd resp_end (ended ∷ []) [] [] (rw after at behind) refl refl (λ behind. (refl, behind)))

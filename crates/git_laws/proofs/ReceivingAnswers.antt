@@ -203,7 +203,7 @@ module _ (t : Terms) (asked : List Asked) (repo : Repository) (sound : IsSound r
       rw parts (header_gives t asked (codes "packfile") PackfileHeader allowed Packfile before _ _ is (no_error (codes "packfile") (λ e. omega arith)) refl refl
       refl
       (λ is. bands_give t asked bands bytes _ (flush ∷ end_packets t.ending) (ended ∷ []) file.ends.are_bands is
-      (λ behind is. end_gives t.format t.ending asked behind Packfile tt is)))
+      (λ behind is. end_gives t.agent t.format t.ending asked behind Packfile tt is)))
 
   -- ---- the wanted references
 
@@ -361,7 +361,7 @@ module _ (t : Terms) (asked : List Asked) (repo : Repository) (sound : IsSound r
       (header_gives t asked (codes "acknowledgments") AcknowledgmentsHeader allowed (Acknowledgments (announced_acks false)) before
       (nak_or_acks ids ++ last) (announced_common ids ++ (ended ∷ [])) is (no_error (codes "acknowledgments") (λ e. omega arith)) refl may refl
       (λ is. common_gives ids (text_line (codes "acknowledgments") ∷ before) last (ended ∷ []) (All-filter repo.has (IsNameIn t.format) (haves_in q) haves) is
-      (λ announced front not_yet is. end_gives t.format t.ending asked front (Acknowledgments announced) not_yet is)))
+      (λ announced front not_yet is. end_gives t.agent t.format t.ending asked front (Acknowledgments announced) not_yet is)))
 
   -- the answer to a fetch that negotiates or not
   fetch_gives : (negotiates : Bool) (q : List Arg) (allowed : Allowed) (before packets : List Pkt) → (negotiates ≡ true → allowed.acknowledgments ≡ true)
@@ -410,7 +410,7 @@ module _ (t : Terms) (asked : List Asked) (repo : Repository) (sound : IsSound r
       (λ behind is. lines_give t asked line event References tt shown behind (flush ∷ last) (ended ∷ []) is
       (λ caps. All-filter (λ entry. is_shown (ref_prefixes_in q) entry.name)
       (λ entry. GivesLine references t.format (line entry) (event entry ∷ [])) repo.refs all)
-      (λ after is. end_gives t.format t.ending asked after References tt is)))
+      (λ after is. end_gives t.agent t.format t.ending asked after References tt is)))
 
   -- ---- sizes
 
@@ -427,7 +427,7 @@ module _ (t : Terms) (asked : List Asked) (repo : Repository) (sound : IsSound r
       (λ is. lines_give t asked (λ id. info_text (announced id)) (λ id. info (announced id)) Sizes tt (oids_in q) (text_line (codes "size") ∷ before) last
       (ended ∷ []) is
       (λ caps k d within. size_line_is t.format _ _ (oids k d within) (written.sizes _))
-      (λ behind is. end_gives t.format t.ending asked behind Sizes tt is)))
+      (λ behind is. end_gives t.agent t.format t.ending asked behind Sizes tt is)))
 
   -- ---- each answer
 

@@ -2,8 +2,8 @@
 use Rattle.std.proofs.Common.{arith, ◌≡◌, ℕ, suc, Bool, true, false, List, [], ◌∷◌, ◌++◌, Option, Some, None, Ok, Err, codes, map}
 use Rattle.std.proofs.Common.{refl, ap, sym, ◌∙◌, subst, length, length-append}
 use Rattle.std.proofs.Common.{cond, eqb, ltb, not, unwrap_or, slice_index, tests, ◌&&◌, ◌||◌, ◌≢◌, ◌≤◌, if◌then◌else◌}
-use Rattle.std.specs.List.{list_all}
-use Rattle.std.proofs.lemmas.Bool.{and_parts}
+use Rattle.std.specs.List.{list_all, list_any}
+use Rattle.std.proofs.lemmas.Bool.{and_parts, lt-ltb}
 use Rattle.git_names.specs.ObjectFormat.{name_of as format_name}
 use Rattle.git_names.specs.declared.object_format.Format.{Format}
 use Rattle.git_names.specs.declared.object_format.Format.TheVariants.{Sha1, Sha256}
@@ -11,7 +11,11 @@ use Rattle.git_pkt.specs.Packets.{Pkt, flush, payload, flushes}
 use Rattle.git_pkt.specs.Splits.{Given}
 use Rattle.git_pkt.specs.declared.fault.Kind.TheVariants.{WrongFormat}
 use Rattle.git_pkt.proofs.Texts.{text_of-line_end}
-use Rattle.git_msg.specs.Advertisement.{is_spoken, noted_of, noted_offer}
+use Rattle.git_msg.specs.Advertisement.{is_spoken, key_in, key_of, noted_by, noted_of, noted_offer, value_in}
+use Rattle.git_msg.specs.Agents.{agent_text, own_agent}
+use Rattle.git_msg.specs.Texts.{spaced_words}
+use Rattle.git_msg.specs.declared.agent.Agent.{Agent}
+use Rattle.git_msg.proofs.AgentNames.{agent_is_short, agent_is_value}
 use Rattle.git_msg.specs.Capability.{is_key, is_value, IsCapability}
 use Rattle.git_msg.specs.Features.{features_value, fetch_features, ls_refs_features, offered_words, valued}
 use Rattle.git_msg.specs.Lines.{IsFormatMeant}
@@ -22,7 +26,7 @@ use Rattle.git_msg.specs.declared.offers.Offer.{Offer}
 use Rattle.git_client.specs.Machine.Client.{AreWhole, spelled}
 use Rattle.git_client.specs.Conversation.{GiveAll, HasNoted}
 use Rattle.git_client.specs.Events.{EventValue, capability, offered}
-use Rattle.git_client.specs.Parts.{Terms, advertisement_of, is_end_expected, is_zero, message_of, nearest, terms_of}
+use Rattle.git_client.specs.Parts.{Terms, advertisement_of, is_end_expected, is_zero, message_of, nearest, terms_by}
 use Rattle.git_client.specs.Places.{capabilities, place_after, version}
 use Rattle.git_client.specs.declared.events.Ending.{Ending}
 use Rattle.git_client.specs.declared.events.Ending.TheVariants.{FlushOnly, ResponseEnd}
@@ -52,7 +56,7 @@ other_lines server_option object_info format =
 
 abbrev offer_lines : Offer → List OfferLine
 offer_lines offer =
-    (codes "agent", Some (codes "git2/1")) ∷ (codes "ls-refs", features_value (ls_refs_features offer))
+    (codes "agent", Some (agent_text offer.agent)) ∷ (codes "ls-refs", features_value (ls_refs_features offer))
     ∷ (codes "fetch", features_value (fetch_features offer)) ∷ other_lines offer.server_option offer.object_info offer.format
 
 abbrev line_packets : List OfferLine → List Pkt
@@ -103,12 +107,12 @@ lines_advertised ((key, value) ∷ lines) before none =
     ∙ ap (λ (n : ℕ). pushed (line_packets lines) (cond (is_zero n) (line ∷ advertisement_of before) (advertisement_of before))) none
 
 -- after them another line may come
-lines_expected : (format : Format) (ending : Ending) (lines : List OfferLine) (line : List ℕ) (before : List Pkt) → flushes before ≡ 0
-    → place_after (terms_of format ending) [] (pushed (line_packets lines) (payload line ∷ before))
+lines_expected : (agent : Agent) (format : Format) (ending : Ending) (lines : List OfferLine) (line : List ℕ) (before : List Pkt) → flushes before ≡ 0
+    → place_after (terms_by agent format ending) [] (pushed (line_packets lines) (payload line ∷ before))
     ≡ Some (capabilities (is_spoken (noted_of (pushed (line_packets lines) (payload line ∷ message_of before))) format))
-lines_expected format ending [] line before none = line_expected (terms_of format ending) [] line before none
-lines_expected format ending ((key, value) ∷ lines) line before none =
-    lines_expected format ending lines (valued key value ++ 10 ∷ []) (payload line ∷ before) none
+lines_expected agent format ending [] line before none = line_expected (terms_by agent format ending) [] line before none
+lines_expected agent format ending ((key, value) ∷ lines) line before none =
+    lines_expected agent format ending lines (valued key value ++ 10 ∷ []) (payload line ∷ before) none
 
 -- the flush after them has no response end
 no_end : (ending : Ending) (before : List Pkt) → flushes before ≡ 0 → is_end_expected ending (flush ∷ before) ≡ false
@@ -156,9 +160,23 @@ others_noted server_option object_info format caps = record caps {
 
 -- the lines of the commands for these features, the last one first
 abbrev commands_stated : Offer → List Pkt
-commands_stated offer = fetch_line offer ∷ ls_refs_line offer ∷ agent_line ∷ text_line (codes "version 2") ∷ []
+commands_stated offer = fetch_line offer ∷ ls_refs_line offer ∷ agent_line offer.agent ∷ text_line (codes "version 2") ∷ []
 
-module _ (format : Format) (object_info server_option : Bool) where
+-- a line passes the test
+abbrev line_passes : (List ℕ → List ℕ → List (List ℕ) → Bool) → Pkt → Bool
+line_passes passes p = passes (key_in p) (value_in p) (spaced_words (value_in p))
+
+-- the capabilities noted from these packets, the third of them a line with this key and value
+abbrev noted_with_line : (key value : List ℕ) (first second : Pkt) (others : List Pkt) → Caps
+noted_with_line key value first second others = noted_by
+    (λ passes. line_passes passes first || (line_passes passes second || (passes key value (spaced_words value) || list_any (line_passes passes) others)))
+    (λ flag named. named)
+
+-- the key of the line that names an agent
+agent_key : (agent : Agent) → key_in (agent_line agent) ≡ codes "agent"
+agent_key agent = ap key_of (text_of-line_end (codes "agent=" ++ agent_text agent))
+
+module _ (agent : Agent) (format : Format) (object_info server_option : Bool) where
   abbrev offer_of : (unborn shallow ref_in_want wait_for_done filter : Bool) → Offer
   offer_of unborn shallow ref_in_want wait_for_done filter = record {
     format = format;
@@ -169,16 +187,25 @@ module _ (format : Format) (object_info server_option : Bool) where
     filter = filter;
     object_info = object_info;
     server_option = server_option;
+    agent = agent;
   }
 
-  commands_are : (unborn shallow ref_in_want wait_for_done filter : Bool)
-      → noted_of (commands_stated (offer_of unborn shallow ref_in_want wait_for_done filter))
-      ≡ commands_noted (offer_of unborn shallow ref_in_want wait_for_done filter)
-  commands_are = each _
+  -- what is noted if the second line has this key, whatever its value
+  commands_of : (value : List ℕ) (unborn shallow ref_in_want wait_for_done filter : Bool)
+      → let offer = offer_of unborn shallow ref_in_want wait_for_done filter in
+      noted_with_line (codes "agent") value (fetch_line offer) (ls_refs_line offer) (text_line (codes "version 2") ∷ []) ≡ commands_noted offer
+  commands_of value = each _
       (each _ (each _ (each _ (each _ refl refl) (each _ refl refl)) (each _ (each _ refl refl) (each _ refl refl)))
       (each _ (each _ (each _ refl refl) (each _ refl refl)) (each _ (each _ refl refl) (each _ refl refl))))
       (each _ (each _ (each _ (each _ refl refl) (each _ refl refl)) (each _ (each _ refl refl) (each _ refl refl)))
       (each _ (each _ (each _ refl refl) (each _ refl refl)) (each _ (each _ refl refl) (each _ refl refl))))
+
+commands_are : (offer : Offer) → noted_of (commands_stated offer) ≡ commands_noted offer
+commands_are offer =
+    let value = value_in (agent_line offer.agent) in
+    ap (λ (key : List ℕ). noted_with_line key value (fetch_line offer) (ls_refs_line offer) (text_line (codes "version 2") ∷ [])) (agent_key offer.agent)
+    ∙ commands_of offer.agent offer.format offer.object_info offer.server_option value
+    offer.unborn offer.shallow offer.ref_in_want offer.wait_for_done offer.filter
 
 others_are : (server_option object_info : Bool) (format : Format) (before : List Pkt)
     → noted_of (pushed (line_packets (other_lines server_option object_info format)) before)
@@ -199,7 +226,7 @@ lines_noted : (offer : Offer) → noted_of (lines_stated offer) ≡ all_noted of
 lines_noted offer =
     others_are offer.server_option offer.object_info offer.format (commands_stated offer)
     ∙ ap (others_noted offer.server_option offer.object_info offer.format)
-    (commands_are offer.format offer.object_info offer.server_option offer.unborn offer.shallow offer.ref_in_want offer.wait_for_done offer.filter)
+    (commands_are offer)
 
 -- with these capabilities the server speaks its format
 spoken_by : (server_option object_info : Bool) (format : Format) (caps : Caps)
@@ -212,8 +239,8 @@ is_sent offer =
     ap (λ (caps : Caps). is_spoken caps offer.format) (lines_noted offer)
     ∙ spoken_by offer.server_option offer.object_info offer.format (commands_noted offer)
 
--- and advertises exactly this offer
-offered_so : (offer : Offer) → noted_offer (all_noted offer) offer.format ≡ offer
+-- and advertises exactly this offer, but for the agent's name
+offered_so : (offer : Offer) → noted_offer (all_noted offer) offer.format ≡ record offer { agent = own_agent }
 offered_so offer = λ i. record {
   format = offer.format;
   unborn = offer.unborn;
@@ -223,9 +250,10 @@ offered_so offer = λ i. record {
   filter = offer.filter;
   object_info = or_false offer.object_info i;
   server_option = or_false offer.server_option i;
+  agent = own_agent;
 }
 
-noted_so : (offer : Offer) → noted_offer (noted_of (lines_stated offer)) offer.format ≡ offer
+noted_so : (offer : Offer) → noted_offer (noted_of (lines_stated offer)) offer.format ≡ record offer { agent = own_agent }
 noted_so offer = ap (λ (caps : Caps). noted_offer caps offer.format) (lines_noted offer) ∙ offered_so offer
 
 -- requests name the format
@@ -267,11 +295,16 @@ others_are_lines false false Sha256 = refl
 both_true : (a b : Bool) → a ≡ true → b ≡ true → (a && b) ≡ true
 both_true a b h k = rw (h, k) refl
 
+agent_is : (agent : Agent) → is_line (codes "agent", Some (agent_text agent)) ≡ true
+agent_is agent =
+    let short = agent_is_short agent in
+    both_true _ _ (agent_is_value agent) (lt-ltb (length (codes "agent=" ++ agent_text agent)) 100 (omega (arith, short)))
+
 are_lines : (offer : Offer) → list_all is_line (offer_lines offer) ≡ true
 are_lines offer =
-    both_true _ _ (ls_refs_is offer.unborn)
+    both_true _ _ (agent_is offer.agent) (both_true _ _ (ls_refs_is offer.unborn)
     (both_true _ _ (fetch_is offer.shallow offer.ref_in_want offer.wait_for_done offer.filter)
-    (others_are_lines offer.server_option offer.object_info offer.format))
+    (others_are_lines offer.server_option offer.object_info offer.format)))
 
 other_byte : (byte : ℕ) → not (eqb byte 69) ≡ true → byte ≢ 69
 other_byte byte e same = grind (arith, tests)
@@ -302,11 +335,11 @@ lines_fit ((key, value) ∷ lines) are =
     let short = (line_parts key value is.0).short in
     (fits_short (valued key value) short, lines_fit lines is.1)
 
-module _ (format : Format) (ending : Ending) where
+module _ (agent : Agent) (format : Format) (ending : Ending) where
   -- capability lines give their capabilities, and then the others follow
   capabilities_give : (lines : List OfferLine) (line : List ℕ) (before ps : List Pkt) (later : List EventValue) → flushes before ≡ 0
-      → list_all is_line lines ≡ true → AnswerGives (terms_of format ending) [] (pushed (line_packets lines) (payload line ∷ before)) ps later
-      → AnswerGives (terms_of format ending) [] (payload line ∷ before) (line_packets lines ++ ps) (capabilities_in lines ++ later)
+      → list_all is_line lines ≡ true → AnswerGives (terms_by agent format ending) [] (pushed (line_packets lines) (payload line ∷ before)) ps later
+      → AnswerGives (terms_by agent format ending) [] (payload line ∷ before) (line_packets lines ++ ps) (capabilities_in lines ++ later)
   capabilities_give [] line before ps later none are others = others
   capabilities_give ((key, value) ∷ lines) line before ps later none are others =
       let place = capabilities (is_spoken (noted_of (payload line ∷ message_of before)) format) in
@@ -318,23 +351,23 @@ module _ (format : Format) (ending : Ending) where
         refl,
         record {
           place = place;
-          is_place = line_expected (terms_of format ending) [] line before none;
+          is_place = line_expected (terms_by agent format ending) [] line before none;
           gives = rw (text_of-line_end text)
               (record { no_error = no_error text (other_byte (slice_index text 0) parts.begins); conveys = capability_of key value parts.is });
         },
         capabilities_give lines (text ++ 10 ∷ []) (payload line ∷ before) ps later none is.1 others,
       )
 
-module _ (offer : Offer) (ending : Ending) where
+module _ (agent : Agent) (offer : Offer) (ending : Ending) where
   -- the flush gives the event of a complete advertisement
-  end_gives : AnswerGives (terms_of offer.format ending) [] (lines_stated offer) (flush ∷ []) (offered ∷ [])
+  end_gives : AnswerGives (terms_by agent offer.format ending) [] (lines_stated offer) (flush ∷ []) (offered ∷ [])
   end_gives = (
     offered ∷ [],
     [],
     refl,
     record {
       place = capabilities (is_spoken (noted_of (lines_stated offer)) offer.format);
-      is_place = lines_expected offer.format ending (offer_lines offer) (codes "version 2" ++ 10 ∷ []) [] refl;
+      is_place = lines_expected agent offer.format ending (offer_lines offer) (codes "version 2" ++ 10 ∷ []) [] refl;
       gives = ap (λ (spoken : Bool). cond spoken (Ok (offered ∷ [])) (Err WrongFormat)) (is_sent offer);
     },
     (
@@ -347,14 +380,14 @@ module _ (offer : Offer) (ending : Ending) where
     ),
   )
 
-  lines_give : AnswerGives (terms_of offer.format ending) [] (text_line (codes "version 2") ∷ []) (line_packets (offer_lines offer) ++ flush ∷ [])
+  lines_give : AnswerGives (terms_by agent offer.format ending) [] (text_line (codes "version 2") ∷ []) (line_packets (offer_lines offer) ++ flush ∷ [])
       (capabilities_in (offer_lines offer) ++ offered ∷ [])
   lines_give =
-      capabilities_give offer.format ending (offer_lines offer) (codes "version 2" ++ 10 ∷ []) [] (flush ∷ []) (offered ∷ []) refl (are_lines offer)
+      capabilities_give agent offer.format ending (offer_lines offer) (codes "version 2" ++ 10 ∷ []) [] (flush ∷ []) (offered ∷ []) refl (are_lines offer)
       end_gives
 
   -- all packets of the advertisement
-  offer_gives : AnswerGives (terms_of offer.format ending) [] [] (server_sends offer) (announced_offer offer)
+  offer_gives : AnswerGives (terms_by agent offer.format ending) [] [] (server_sends offer) (announced_offer offer)
   offer_gives = (
     [],
     announced_offer offer,
@@ -406,8 +439,8 @@ noted_after_all offer back =
 
 module _ (t : Terms) (offer : Offer) (gs : List Given) (format : offer.format ≡ t.format) (are : packets_of gs ≡ server_sends offer) where
   given : AnswerGives t [] [] (packets_of gs) (announced_offer offer)
-  given = rw are (subst (λ (f : Format). AnswerGives (terms_of f t.ending) [] [] (server_sends offer) (announced_offer offer)) format
-      (offer_gives offer t.ending))
+  given = rw are (subst (λ (f : Format). AnswerGives (terms_by t.agent f t.ending) [] [] (server_sends offer) (announced_offer offer)) format
+      (offer_gives t.agent offer t.ending))
 
   -- the packets give the events of the offer, whatever is asked later
   pub offer_received : (asked : List Asked) → GiveAll t asked [] gs (announced_offer offer)
@@ -417,9 +450,9 @@ module _ (t : Terms) (offer : Offer) (gs : List Given) (format : offer.format �
   pub offer_whole : AreWhole t [] (nearest gs [])
   offer_whole = given_whole t [] [] gs (announced_offer offer) given
 
--- from bytes that begin with the advertisement exactly the offer is noted
+-- from bytes that begin with the advertisement exactly the offer is noted, but for the agent's name
 pub offer_noted : (t : Terms) (asked : List Asked) (offer : Offer) (more : List ℕ) (caps : Caps) → offer.format ≡ t.format
-    → HasNoted t asked (spelled (server_sends offer) ++ more) caps → noted_offer caps t.format ≡ offer
+    → HasNoted t asked (spelled (server_sends offer) ++ more) caps → noted_offer caps t.format ≡ record offer { agent = own_agent }
 offer_noted t asked offer more caps format (clean, events, sounds, is) =
     let (front, back, whole, are) =
     front_are 0 (server_sends offer) more sounds.given sounds.rest (advertisement_fits offer) sounds.splits.spelled sounds.splits.ends in

@@ -1,11 +1,12 @@
 -- A server reads exactly the requests that a client wrote.
-use Rattle.std.proofs.Common.{arith, ◌≡◌, ℕ, ◌+◌, ◌≤◌, Bool, true, false, All, flat_map, List, [], ◌∷◌, ◌++◌, codes, refl}
+use Rattle.std.proofs.Common.{arith, ◌≡◌, ℕ, ◌+◌, ◌≤◌, Bool, true, false, All, flat_map, List, [], ◌∷◌, ◌++◌, Option, Some, None, codes, refl}
 use Rattle.std.proofs.Common.{ap, sym, ◌∙◌, append_assoc, get_or, subst}
 use Rattle.std.proofs.lemmas.List.{map-append}
 use Rattle.std.proofs.lemmas.List.Elements.{All-cons, All-head, All-nil, All-tail}
 use Rattle.git_names.specs.declared.object_format.Format.{Format}
 use Rattle.git_pkt.specs.Packets.{Pkt, delim, flush, flushes, payload}
 use Rattle.git_pkt.specs.Splits.{Given}
+use Rattle.git_msg.specs.declared.agent.Agent.{Agent}
 use Rattle.git_msg.specs.declared.arguments.Command.{Command}
 use Rattle.git_msg.specs.declared.offers.Offer.{Offer}
 use Rattle.git_msg.specs.Advertisement.{takes_command}
@@ -14,7 +15,7 @@ use Rattle.git_msg.specs.Asked.{Asked, HasValues, arguments_in, command_asked, w
 use Rattle.git_msg.specs.Lines.{IsFormatMeant, IsLineIn, Line, argument, commands_of, delimiter, has_delimiter}
 use Rattle.git_msg.specs.Requests.{AreLines, Asks}
 use Rattle.git_msg.specs.WholeRequests.{AreRequests}
-use Rattle.git_msg.specs.WrittenRequest.{agent_line, format_line, lines_written, text_line, where_set}
+use Rattle.git_msg.specs.WrittenRequest.{format_line, lines_written, text_line, where_named, where_set}
 use Rattle.git_msg.proofs.LineLaws.{fronts_same, one_list_of_lines}
 use Rattle.git_msg.proofs.RoundTrip.{lines_read_back}
 use Rattle.git_msg.proofs.WholeRequests.{NoFlush, lines_have_no_flush, whole_then}
@@ -46,7 +47,7 @@ lines_within offer limit most before (g ∷ gs) (l ∷ ls) more h = (
   lines_within offer limit most (before ++ l ∷ []) gs ls more h.1,
 )
 
-module _ (offer : Offer) (writes_agent writes_format : Bool) (meant : IsFormatMeant offer.format writes_format)
+module _ (offer : Offer) (writes_agent : Option Agent) (writes_format : Bool) (meant : IsFormatMeant offer.format writes_format)
     (takes : (c : Command) → takes_command offer c ≡ true) (offers : (arg : Arg) → is_offered offer arg ≡ true) where
   -- the request read from the packets of a request is that request
   one_written : (limit kept : ℕ) (q other : Asked) (gs : List Given) → HasValues offer.format q
@@ -66,30 +67,31 @@ module _ (offer : Offer) (writes_agent writes_format : Bool) (meant : IsFormatMe
 -- ---- where a request ends
 
 -- the packets of a request before its delimiter
-abbrev capability_packets : Bool → Bool → Format → Asked → List Pkt
+abbrev capability_packets : Option Agent → Bool → Format → Asked → List Pkt
 capability_packets writes_agent writes_format format q =
-    text_line (codes "command=" ++ name_of (command_asked q)) ∷ where_set writes_agent agent_line (where_set writes_format (format_line format) [])
+    text_line (codes "command=" ++ name_of (command_asked q)) ∷ where_named writes_agent (where_set writes_format (format_line format) [])
 
 -- all but its flush
-abbrev pub lines_of : Bool → Bool → Format → Asked → List Pkt
+abbrev pub lines_of : Option Agent → Bool → Format → Asked → List Pkt
 lines_of writes_agent writes_format format q = capability_packets writes_agent writes_format format q ++ delim ∷ argument_packets (arguments_in q)
 
-pub lines_end : (writes_agent writes_format : Bool) (format : Format) (q : Asked)
+pub lines_end : (writes_agent : Option Agent) (writes_format : Bool) (format : Format) (q : Asked)
     → lines_written writes_agent writes_format format q ≡ lines_of writes_agent writes_format format q ++ flush ∷ []
-lines_end true true format q = refl
-lines_end true false format q = refl
-lines_end false true format q = refl
-lines_end false false format q = refl
+lines_end (Some agent) true format q = refl
+lines_end (Some agent) false format q = refl
+lines_end None true format q = refl
+lines_end None false format q = refl
 
 arguments_clear : (args : List Arg) → flushes (argument_packets args) ≡ 0
 arguments_clear [] = refl
 arguments_clear (arg ∷ args) = arguments_clear args
 
-pub lines_clear : (writes_agent writes_format : Bool) (format : Format) (q : Asked) → flushes (lines_of writes_agent writes_format format q) ≡ 0
-lines_clear true true format q = arguments_clear (arguments_in q)
-lines_clear true false format q = arguments_clear (arguments_in q)
-lines_clear false true format q = arguments_clear (arguments_in q)
-lines_clear false false format q = arguments_clear (arguments_in q)
+pub lines_clear : (writes_agent : Option Agent) (writes_format : Bool) (format : Format) (q : Asked)
+    → flushes (lines_of writes_agent writes_format format q) ≡ 0
+lines_clear (Some agent) true format q = arguments_clear (arguments_in q)
+lines_clear (Some agent) false format q = arguments_clear (arguments_in q)
+lines_clear None true format q = arguments_clear (arguments_in q)
+lines_clear None false format q = arguments_clear (arguments_in q)
 
 -- the packets before the first flush, and those after it
 first_flush : (xs more : List Given) (last : Given) (front back : List Pkt) → NoFlush xs → last.packet ≡ flush → flushes front ≡ 0
@@ -156,10 +158,10 @@ abbrev pub HaveValues : List Asked → Type 0
 HaveValues asked = All (λ q. (format : Format) × HasValues format q) asked
 
 -- the packets of requests
-abbrev pub written_all : Bool → Bool → Format → List Asked → List Pkt
+abbrev pub written_all : Option Agent → Bool → Format → List Asked → List Pkt
 written_all writes_agent writes_format format asked = flat_map (lines_written writes_agent writes_format format) asked
 
-module _ (s : Setting) (writes_agent writes_format : Bool) (meant : IsFormatMeant s.offer.format writes_format)
+module _ (s : Setting) (writes_agent : Option Agent) (writes_format : Bool) (meant : IsFormatMeant s.offer.format writes_format)
     (takes : (c : Command) → takes_command s.offer c ≡ true) (offers : (arg : Arg) → is_offered s.offer arg ≡ true) where
   -- the first request read is the first one written, and the packets after it are those written after it
   first_read : (q r : Asked) (kept : ℕ) (front more gs : List Given) (back : List Pkt) → (format : Format) × HasValues format q → gs ≡ front ++ more

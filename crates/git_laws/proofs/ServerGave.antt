@@ -7,6 +7,7 @@ use Rattle.git_pkt.specs.Splits.{Given}
 use Rattle.git_pkt.specs.declared.fault.Fault.{Fault}
 use Rattle.git_pkt.specs.declared.fault.Kind.{Kind}
 use Rattle.git_pkt.specs.declared.fault.Kind.TheVariants.{PackSource, RemoteError}
+use Rattle.git_msg.specs.declared.agent.Agent.{Agent}
 use Rattle.git_msg.specs.Asked.{Asked, HasValues}
 use Rattle.git_msg.specs.Lines.{IsFormatMeant}
 use Rattle.git_client.specs.Machine.Client.{farewell}
@@ -179,8 +180,8 @@ farewell_fits true = (omega arith, tt)
 farewell_fits false = tt
 
 -- of the requests that a client wrote it read the first ones
-pub read_front : (format : Format) (limit : ℕ) (state : RepoState) (writes_agent writes_format : Bool) (asked others : List Asked) (leaves : Bool)
-    (used more : List ℕ) (left : List Given) (rest : List ℕ) → IsFormatMeant format writes_format → HaveValues asked
+pub read_front : (format : Format) (limit : ℕ) (state : RepoState) (writes_agent : Option Agent) (writes_format : Bool) (asked others : List Asked)
+    (leaves : Bool) (used more : List ℕ) (left : List Given) (rest : List ℕ) → IsFormatMeant format writes_format → HaveValues asked
     → used ++ more ≡ spelled (written_all writes_agent writes_format format asked ++ farewell leaves)
     → Stream (setting_of (terms_with format) limit state true) used others left rest
     → (after : List Asked) × (asked ≡ others ++ after) × All (HasValues format) others

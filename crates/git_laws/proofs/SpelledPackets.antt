@@ -1,5 +1,5 @@
 -- Packets as they are written: they fit, and their bytes are split into the same packets again.
-use Rattle.std.proofs.Common.{arith, ◌≡◌, ◌≤◌, ℕ, ◌+◌, Bool, true, false, All, length, List, [], ◌∷◌, ◌++◌, codes}
+use Rattle.std.proofs.Common.{arith, ◌≡◌, ◌≤◌, ℕ, ◌+◌, Bool, true, false, All, length, List, [], ◌∷◌, ◌++◌, Option, Some, None, codes}
 use Rattle.std.proofs.Common.{refl, ap, sym, ◌∙◌, append_assoc, length-append}
 use Rattle.std.proofs.lemmas.List.Elements.{All-head, All-tail}
 use Rattle.git_names.specs.declared.object_format.Format.{Format}
@@ -9,11 +9,14 @@ use Rattle.git_pkt.specs.Splits.{Given, NoneBegins, Splits, SpellsAll}
 use Rattle.git_pkt.proofs.Spelling.{none_begins_nothing, same_start}
 use Rattle.git_pkt.proofs.Streams.{one_split}
 use Rattle.git_pkt.proofs.Written.{spells_written}
+use Rattle.git_msg.specs.Agents.{agent_text}
+use Rattle.git_msg.proofs.AgentNames.{agent_is_short}
+use Rattle.git_msg.specs.declared.agent.Agent.{Agent}
 use Rattle.git_msg.specs.declared.arguments.Command.{Command}
 use Rattle.git_msg.specs.declared.arguments.Command.TheVariants.{LsRefs, Fetch, ObjectInfo}
 use Rattle.git_msg.specs.Arguments.{Arg, IsValue, name_of, written_text}
 use Rattle.git_msg.specs.Asked.{Asked, HasValues, arguments_in, command_asked}
-use Rattle.git_msg.specs.WrittenRequest.{agent_line, argument_lines, format_line, lines_written, text_line, where_set}
+use Rattle.git_msg.specs.WrittenRequest.{argument_lines, format_line, lines_written, text_line, where_named, where_set}
 use Rattle.git_msg.proofs.KeptBytes.{value_fits}
 use Rattle.git_client.specs.Machine.Client.{spelled}
 use Rattle.git_server.specs.Answers.{AllFit}
@@ -95,9 +98,9 @@ arguments_fit command format (arg ∷ args) values =
     text_fits (written_text arg) (argument_lines args) (omega (arith, short))
     (arguments_fit command format args (All-tail (IsValue command format) arg args values))
 
-agent_fits : (conveys : Bool) (others : List Pkt) → AllFit others → AllFit (where_set conveys agent_line others)
-agent_fits true others fit = text_fits (codes "agent=git2/1") others (omega arith) fit
-agent_fits false others fit = fit
+agent_fits : (named : Option Agent) (others : List Pkt) → AllFit others → AllFit (where_named named others)
+agent_fits (Some agent) others fit = text_fits (codes "agent=" ++ agent_text agent) others (omega (arith, agent_is_short agent)) fit
+agent_fits None others fit = fit
 
 format_fits : (format : Format) (conveys : Bool) (others : List Pkt) → AllFit others → AllFit (where_set conveys (format_line format) others)
 format_fits Sha1 true others fit = text_fits (codes "object-format=sha1") others (omega arith) fit
@@ -109,13 +112,13 @@ command_fits LsRefs others fit = text_fits (codes "command=ls-refs") others (ome
 command_fits Fetch others fit = text_fits (codes "command=fetch") others (omega arith) fit
 command_fits ObjectInfo others fit = text_fits (codes "command=object-info") others (omega arith) fit
 
-request_fits : (writes_agent writes_format : Bool) (format written : Format) (q : Asked) → HasValues written q
+request_fits : (writes_agent : Option Agent) (writes_format : Bool) (format written : Format) (q : Asked) → HasValues written q
     → AllFit (lines_written writes_agent writes_format format q)
 request_fits writes_agent writes_format format written q values =
     command_fits (command_asked q) _ (agent_fits writes_agent _ (format_fits format writes_format _
     (omega arith, arguments_fit (command_asked q) written (arguments_in q) values.allowed)))
 
-pub requests_fit : (writes_agent writes_format : Bool) (format : Format) (asked : List Asked) → HaveValues asked
+pub requests_fit : (writes_agent : Option Agent) (writes_format : Bool) (format : Format) (asked : List Asked) → HaveValues asked
     → AllFit (written_all writes_agent writes_format format asked)
 requests_fit writes_agent writes_format format [] values = tt
 requests_fit writes_agent writes_format format (q ∷ asked) values =

@@ -7,6 +7,7 @@ use Rattle.git_names.specs.ObjectName.{ObjectName, IsOid}
 use Rattle.git_names.specs.declared.object_format.Format.{Format}
 use Rattle.git_pkt.specs.Packets.{Pkt, resp_end}
 use Rattle.git_pkt.specs.Splits.{Given}
+use Rattle.git_msg.specs.Agents.{agent_text}
 use Rattle.git_msg.specs.Advertisement.{everything}
 use Rattle.git_msg.specs.declared.offers.Offer.{Offer}
 use Rattle.git_msg.specs.declared.Boundary.{Boundary}
@@ -125,7 +126,7 @@ announced_where is_offered key = if is_offered then capability key None ∷ [] e
 -- the events of the advertisement of an offer
 abbrev pub announced_offer : Offer → List EventValue
 announced_offer offer =
-    capability (codes "agent") (Some (codes "git2/1")) ∷ capability (codes "ls-refs") (features_value (ls_refs_features offer))
+    capability (codes "agent") (Some (agent_text offer.agent)) ∷ capability (codes "ls-refs") (features_value (ls_refs_features offer))
     ∷ capability (codes "fetch") (features_value (fetch_features offer))
     ∷ (announced_where offer.server_option (codes "server-option")
     ++ capability (codes "object-format") (Some (format_name offer.format)) ∷ (announced_where offer.object_info (codes "object-info") ++ offered ∷ []))

@@ -70,7 +70,7 @@ AreSent ResponseEnd first later content questions = (first.content ≡ []) × (m
 
 -- the bytes of each request as it is sent, if this was advertised
 abbrev pub sent_each : Terms → Caps → List Asked → List (List ℕ)
-sent_each t caps asked = map (λ q. spelled (questions_of t.format caps (q ∷ []))) asked
+sent_each t caps asked = map (λ q. spelled (questions_of t caps (q ∷ []))) asked
 
 -- the bytes sent to the servers; the client used a prefix of those that the servers sent
 pub record AreServed (t : Terms) (h : History) (unheard : List ℕ) (first : Talk) (later : List Talk) : Type 0 where

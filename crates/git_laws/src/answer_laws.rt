@@ -5,6 +5,7 @@ ghost use Rattle.git_names.specs.declared.object_format.Format.{Format};
 ghost use Rattle.git_pkt.specs.Packets.{Pkt};
 ghost use Rattle.git_pkt.specs.Splits.{Given};
 ghost use Rattle.git_msg.specs.Advertisement.{noted_offer};
+ghost use Rattle.git_msg.specs.Agents.{own_agent};
 ghost use Rattle.git_msg.specs.Asked.{Asked, HasValues};
 ghost use Rattle.git_msg.specs.declared.offers.Caps.{Caps};
 ghost use Rattle.git_msg.specs.declared.offers.Offer.{Offer};
@@ -23,14 +24,14 @@ ghost use Rattle.git_repository.specs.RepositoryText.{IsRepositoryText};
 ghost use Rattle.git_laws.specs.AnnouncedAnswers.{AsksIn, CanBeWritten, end_packets, packets_of, announced_all, announced_by, announced_offer};
 
 /// A client receives the advertisement of any offer as it was meant, whatever is asked later. Then the first answer may follow. The
-/// capabilities that a client notes in bytes that begin with the advertisement are exactly that offer.
+/// capabilities that a client notes in bytes that begin with the advertisement are exactly that offer, but for the agent's name.
 pub fn received_offer()
     ensures arrived { (t : Terms) (asked : List Asked) (offer : Offer) (gs : List Given) → offer.format ≡ t.format
         → packets_of gs ≡ advertisement_of offer → GiveAll t asked [] gs (announced_offer offer) }
     ensures whole { (t : Terms) (offer : Offer) (gs : List Given) → offer.format ≡ t.format
         → packets_of gs ≡ advertisement_of offer → AreWhole t [] (nearest gs []) }
     ensures noted { (t : Terms) (asked : List Asked) (offer : Offer) (more : List ℕ) (caps : Caps) → offer.format ≡ t.format
-        → HasNoted t asked (spelled (advertisement_of offer) ++ more) caps → noted_offer caps t.format ≡ offer }
+        → HasNoted t asked (spelled (advertisement_of offer) ++ more) caps → noted_offer caps t.format ≡ record offer { agent = own_agent } }
 {}
 
 /// A client receives a whole answer as it was meant: after the advertisement and the answers to the earlier requests, none of its packets is

@@ -1,3 +1,4 @@
+pub mod AgentNames
 pub mod Keys
 pub mod HeadWords
 pub mod Noted

@@ -1,7 +1,7 @@
 -- The written form of a request reads back.
-use Rattle.std.proofs.Common.{arith, ◌≡◌, ◌≢◌, ℕ, ◌+◌, ◌≤◌, Bool, true, false, Some, None, List, [], ◌∷◌, ◌++◌, refl, ap, sym, rules}
+use Rattle.std.proofs.Common.{arith, ◌≡◌, ◌≢◌, ℕ, ◌+◌, ◌≤◌, Bool, true, false, Option, Some, None, List, [], ◌∷◌, ◌++◌, refl, ap, sym, rules}
 use Rattle.std.proofs.Common.{◌∙◌, subst, length, slice_index, codes}
-use Rattle.std.specs.Prelude.{All, IsTrue, map}
+use Rattle.std.specs.Prelude.{All, IsTrue, is_some, map}
 use Rattle.std.proofs.lemmas.List.{append-nil}
 use Rattle.std.proofs.lemmas.List.Elements.{All-head, All-tail}
 use Rattle.std.proofs.lemmas.List.Sums.{sum_by-cons}
@@ -11,6 +11,7 @@ use Rattle.git_names.specs.declared.object_format.Format.TheVariants.{Sha1, Sha2
 use Rattle.git_pkt.specs.Packets.{Pkt, flush, delim}
 use Rattle.git_pkt.specs.Splits.{Given}
 use Rattle.git_pkt.proofs.Texts.{text_of-line_end}
+use Rattle.git_msg.specs.declared.agent.Agent.{Agent}
 use Rattle.git_msg.specs.declared.offers.Offer.{Offer}
 use Rattle.git_msg.specs.declared.arguments.Command.{Command}
 use Rattle.git_msg.specs.declared.arguments.Command.TheVariants.{LsRefs, Fetch, ObjectInfo}
@@ -24,6 +25,7 @@ use Rattle.git_msg.specs.declared.words.TextWord.{TextWord}
 use Rattle.git_msg.specs.declared.words.NumberWord.{NumberWord}
 use Rattle.git_msg.specs.Arguments.{Arg, alone, with_id, with_text, with_number, row, word_of, HasArgument, StatesValue, IsInRange, IsValue, is_offered}
 use Rattle.git_msg.specs.Arguments.{name_of, written_text, written_value}
+use Rattle.git_msg.specs.Agents.{agent_text}
 use Rattle.git_msg.specs.Capability.{is_value}
 use Rattle.git_msg.specs.Advertisement.{takes_command}
 use Rattle.git_msg.specs.Asked.{Asked, command_asked, asked_by, arguments_in, bytes_of, written_bytes, HasValues, AreOffered}
@@ -33,7 +35,8 @@ use Rattle.git_msg.specs.Lines.{IsArgumentLine, IsFormatMeant, IsLine}
 use Rattle.git_msg.specs.Machine.JudgedLine.{IsText}
 use Rattle.git_msg.specs.Checks.{Passes}
 use Rattle.git_msg.specs.Requests.{AreLines, Asks}
-use Rattle.git_msg.specs.WrittenRequest.{text_line, where_set, agent_line, format_line, argument_lines, lines_written}
+use Rattle.git_msg.specs.WrittenRequest.{text_line, where_named, where_set, format_line, argument_lines, lines_written}
+use Rattle.git_msg.proofs.AgentNames.{agent_is_value}
 use Rattle.git_msg.proofs.ArgumentsInOrder.{asks_for_it}
 use Rattle.git_msg.proofs.DigitValues.{decimal_reads_back}
 use Rattle.git_msg.proofs.KeptBytes.{small_number}
@@ -176,12 +179,12 @@ command_written offer LsRefs taken = command_line offer LsRefs refl taken
 command_written offer Fetch taken = command_line offer Fetch refl taken
 command_written offer ObjectInfo taken = command_line offer ObjectInfo refl taken
 
-agent_written : (offer : Offer) → IsCapabilityLine offer false (codes "agent=git2/1") agent
-agent_written offer = record {
-  no_error = not_error (codes "agent=git2/1") (λ e. omega arith);
+agent_written : (offer : Offer) (a : Agent) → IsCapabilityLine offer false (codes "agent=" ++ agent_text a) agent
+agent_written offer a = record {
+  no_error = not_error (codes "agent=" ++ agent_text a) (λ e. omega arith);
   key = AgentKey;
-  value = Some (codes "git2/1");
-  has_key = record { word = codes "agent"; is_capability = (refl, refl, refl); is_word = refl };
+  value = Some (agent_text a);
+  has_key = record { word = codes "agent"; is_capability = (refl, refl, agent_is_value a); is_word = refl };
   allowed = tt;
   line_is = tt;
 }
@@ -204,9 +207,9 @@ where_stated true line lines = line ∷ lines
 where_stated false line lines = lines
 
 -- the lines of a request for these arguments
-lines_read : Bool → Bool → Command → List Arg → List Line
+lines_read : Option Agent → Bool → Command → List Arg → List Line
 lines_read writes_agent writes_format c args =
-    command c ∷ where_stated writes_agent agent (where_stated writes_format object_format (delimiter ∷ map written_line args))
+    command c ∷ where_stated (is_some writes_agent) agent (where_stated writes_format object_format (delimiter ∷ map written_line args))
 
 -- the object format, if it is written, and what follows
 format_finish : (offer : Offer) (limit : ℕ) (c : Command) (before : List Line) (writes_format : Bool) (args : List Arg) (gs : List Given)
@@ -230,23 +233,24 @@ format_finish offer limit c before false args gs part unsaid meant texts fits h 
     delimiter_finish offer limit c before args gs part (subst (IsFormatMeant offer.format) (sym unsaid) meant) texts fits h
 
 -- the agent, if it is written, and what follows
-agent_finish : (offer : Offer) (limit : ℕ) (c : Command) (writes_agent writes_format : Bool) (args : List Arg) (gs : List Given)
+agent_finish : (offer : Offer) (limit : ℕ) (c : Command) (writes_agent : Option Agent) (writes_format : Bool) (args : List Arg) (gs : List Given)
     → IsFormatMeant offer.format writes_format → AreTexts c offer args → bytes_of args ≤ limit
-    → packets_of gs ≡ where_set writes_agent agent_line (where_set writes_format (format_line offer.format) (delim ∷ argument_lines args))
-    → Finishes offer limit (command c ∷ []) gs (where_stated writes_agent agent (where_stated writes_format object_format (delimiter ∷ map written_line args)))
+    → packets_of gs ≡ where_named writes_agent (where_set writes_format (format_line offer.format) (delim ∷ argument_lines args))
+    → Finishes offer limit (command c ∷ []) gs
+    (where_stated (is_some writes_agent) agent (where_stated writes_format object_format (delimiter ∷ map written_line args)))
 unfolding where_stated
-agent_finish offer limit c true writes_format args gs meant texts fits h =
-    cons_line offer limit (command c ∷ []) gs _ _ _ _ h (capability_written offer limit (command c ∷ []) _ agent refl (agent_written offer))
+agent_finish offer limit c (Some a) writes_format args gs meant texts fits h =
+    cons_line offer limit (command c ∷ []) gs _ _ _ _ h (capability_written offer limit (command c ∷ []) _ agent refl (agent_written offer a))
     (λ gs1 h1. format_finish offer limit c (command c ∷ agent ∷ []) writes_format args gs1
     (record { in_front = refl; once = refl; none_kept = refl }) refl meant texts fits h1)
-agent_finish offer limit c false writes_format args gs meant texts fits h =
+agent_finish offer limit c None writes_format args gs meant texts fits h =
     format_finish offer limit c (command c ∷ []) writes_format args gs (record { in_front = refl; once = refl; none_kept = refl }) refl meant texts fits h
 
 -- all packets of a request for these arguments
-lines_finish : (offer : Offer) (limit : ℕ) (c : Command) (writes_agent writes_format : Bool) (args : List Arg) (gs : List Given)
+lines_finish : (offer : Offer) (limit : ℕ) (c : Command) (writes_agent : Option Agent) (writes_format : Bool) (args : List Arg) (gs : List Given)
     → IsFormatMeant offer.format writes_format → takes_command offer c ≡ true → AreTexts c offer args → bytes_of args ≤ limit
     → packets_of gs ≡ text_line (codes "command=" ++ name_of c)
-    ∷ where_set writes_agent agent_line (where_set writes_format (format_line offer.format) (delim ∷ argument_lines args))
+    ∷ where_named writes_agent (where_set writes_format (format_line offer.format) (delim ∷ argument_lines args))
     → Finishes offer limit [] gs (lines_read writes_agent writes_format c args)
 unfolding lines_read
 lines_finish offer limit c writes_agent writes_format args gs meant taken texts fits h =
@@ -287,7 +291,7 @@ line_conveys line no_command no_argument no_bytes no_delimiter true cs args kept
     }
 line_conveys line no_command no_argument no_bytes no_delimiter false cs args kept lines h = h
 
-lines_convey : (writes_agent writes_format : Bool) (c : Command) (args : List Arg)
+lines_convey : (writes_agent : Option Agent) (writes_format : Bool) (c : Command) (args : List Arg)
     → HasContent (c ∷ []) args (bytes_of args) true (lines_read writes_agent writes_format c args)
 unfolding lines_read
 lines_convey writes_agent writes_format c args =
@@ -298,9 +302,10 @@ lines_convey writes_agent writes_format c args =
       has_bytes = rest.has_bytes;
       is_delimited = refl;
     } in
-    let others = where_stated writes_agent agent (where_stated writes_format object_format (delimiter ∷ map written_line args)) in
+    let others = where_stated (is_some writes_agent) agent (where_stated writes_format object_format (delimiter ∷ map written_line args)) in
     let h : HasContent [] args (bytes_of args) true others =
-    line_conveys agent refl refl refl refl writes_agent [] args (bytes_of args) (where_stated writes_format object_format (delimiter ∷ map written_line args))
+    line_conveys agent refl refl refl refl (is_some writes_agent) [] args (bytes_of args)
+    (where_stated writes_format object_format (delimiter ∷ map written_line args))
     (line_conveys object_format refl refl refl refl writes_format [] args (bytes_of args) (delimiter ∷ map written_line args) part) in
     record {
       conveys_commands = ap (λ (cs : List Command). c ∷ cs) h.conveys_commands;
@@ -324,7 +329,7 @@ pub record ReadsLines (offer : Offer) (limit : ℕ) (asked : Asked) (gs : List G
   pub delimited : has_delimiter lines ≡ true
 
 -- the written form of a request has lines that ask for the same, whatever is checked at its end
-pub lines_read_back : (offer : Offer) (limit : ℕ) (writes_agent writes_format : Bool) (asked : Asked) (gs : List Given)
+pub lines_read_back : (offer : Offer) (limit : ℕ) (writes_agent : Option Agent) (writes_format : Bool) (asked : Asked) (gs : List Given)
     → IsFormatMeant offer.format writes_format → takes_command offer (command_asked asked) ≡ true → HasValues offer.format asked → AreOffered offer asked
     → written_bytes asked ≤ limit → packets_of gs ≡ lines_written writes_agent writes_format offer.format asked → ReadsLines offer limit asked gs
 lines_read_back offer limit writes_agent writes_format asked gs meant taken values offered fits h =
@@ -349,8 +354,8 @@ lines_read_back offer limit writes_agent writes_format asked gs meant taken valu
     }
 
 -- the written form of a request is a request for the same
-pub reads_back : (offer : Offer) (limit : ℕ) (writes_agent writes_format : Bool) (asked : Asked) (gs : List Given) → IsFormatMeant offer.format writes_format
-    → takes_command offer (command_asked asked) ≡ true → HasValues offer.format asked → AreOffered offer asked
+pub reads_back : (offer : Offer) (limit : ℕ) (writes_agent : Option Agent) (writes_format : Bool) (asked : Asked) (gs : List Given)
+    → IsFormatMeant offer.format writes_format → takes_command offer (command_asked asked) ≡ true → HasValues offer.format asked → AreOffered offer asked
     → written_bytes asked ≤ limit → Passes (end_checks asked)
     → packets_of gs ≡ lines_written writes_agent writes_format offer.format asked → Asks offer limit gs asked (written_bytes asked)
 reads_back offer limit writes_agent writes_format asked gs meant taken values offered fits passes h =

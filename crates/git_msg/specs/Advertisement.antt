@@ -5,6 +5,7 @@ use Rattle.std.specs.Str.{bytes_eq}
 use Rattle.git_names.specs.declared.object_format.Format.{Format}
 use Rattle.git_names.specs.declared.object_format.Format.TheVariants.{Sha1, Sha256}
 use Rattle.git_pkt.specs.Packets.{Pkt, payload, text_of}
+use Rattle.git_msg.specs.Agents.{own_agent}
 use Rattle.git_msg.specs.Texts.{spaced_words}
 use Rattle.git_msg.specs.declared.arguments.Command.{Command}
 use Rattle.git_msg.specs.declared.arguments.Command.TheVariants.{LsRefs, Fetch, ObjectInfo}
@@ -92,7 +93,7 @@ abbrev pub takes_command : Offer → Command → Bool
 takes_command offer ObjectInfo = offer.object_info
 takes_command offer command = true
 
--- an offer of each thing whose flag in the noted capabilities passes
+-- an offer of each thing whose flag in the noted capabilities passes, by this library's own agent
 abbrev pub offer_where : ((Caps → Bool) → Bool) → Format → Offer
 offer_where passes format = record {
   format = format;
@@ -103,6 +104,7 @@ offer_where passes format = record {
   filter = passes (λ caps. caps.filter);
   object_info = passes (λ caps. caps.object_info);
   server_option = passes (λ caps. caps.server_option);
+  agent = own_agent;
 }
 
 -- the offer of a server that advertises everything

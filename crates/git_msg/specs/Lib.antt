@@ -1,5 +1,7 @@
 pub mod Admission
 pub mod Advertisement
+pub mod AgentNames
+pub mod Agents
 pub mod Arguments
 pub mod Asked
 pub mod Capability

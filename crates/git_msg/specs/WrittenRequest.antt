@@ -1,10 +1,12 @@
 -- The written form of a request.
-use Rattle.std.specs.Prelude.{ℕ, Bool, true, false, List, [], ◌∷◌, ◌++◌, map, codes}
+use Rattle.std.specs.Prelude.{ℕ, Bool, true, false, Option, Some, None, List, [], ◌∷◌, ◌++◌, map, codes}
 use Rattle.git_names.specs.ObjectFormat.{name_of as format_name}
 use Rattle.git_names.specs.declared.object_format.Format.{Format}
 use Rattle.git_pkt.specs.Packets.{Pkt, flush, delim, payload}
+use Rattle.git_msg.specs.Agents.{agent_text}
 use Rattle.git_msg.specs.Arguments.{Arg, name_of, written_text}
 use Rattle.git_msg.specs.Asked.{Asked, command_asked, arguments_in}
+use Rattle.git_msg.specs.declared.agent.Agent.{Agent}
 
 -- a line, with LF at its end
 abbrev pub text_line : List ℕ → Pkt
@@ -16,8 +18,13 @@ where_set true p others = p ∷ others
 where_set false p others = others
 
 -- the line that names the agent
-abbrev pub agent_line : Pkt
-agent_line = text_line (codes "agent=git2/1")
+abbrev pub agent_line : Agent → Pkt
+agent_line agent = text_line (codes "agent=" ++ agent_text agent)
+
+-- that line before the others, if an agent is named
+abbrev pub where_named : Option Agent → List Pkt → List Pkt
+where_named (Some agent) others = agent_line agent ∷ others
+where_named None others = others
 
 -- the line that names the object format
 abbrev pub format_line : Format → Pkt
@@ -31,8 +38,8 @@ argument_lines args = map (λ arg. text_line (written_text arg)) args ++ flush �
 abbrev pub argument_part : Asked → List Pkt
 argument_part asked = delim ∷ argument_lines (arguments_in asked)
 
--- the packets of a request for this: the agent and the object format are named if they were advertised
-abbrev pub lines_written : Bool → Bool → Format → Asked → List Pkt
+-- the packets of a request for this: an agent may be named, and so may the object format
+abbrev pub lines_written : Option Agent → Bool → Format → Asked → List Pkt
 lines_written agent object_format format asked =
     text_line (codes "command=" ++ name_of (command_asked asked))
-    ∷ where_set agent agent_line (where_set object_format (format_line format) (argument_part asked))
+    ∷ where_named agent (where_set object_format (format_line format) (argument_part asked))

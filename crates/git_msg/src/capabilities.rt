@@ -18,9 +18,6 @@ pub struct Capability<'a> {
     pub value: Option<&'a [u8]>,
 }
 
-/// The capability line with which each side names itself.
-pub const AGENT_LINE: &[u8] = b"agent=git2/1\n";
-
 /// Reads the text of a capability line, `key` or `key=value`. Any other text is `BadCapability`.
 pub fn read_capability<'a>(text: &'a [u8], steps: &mut Steps) -> Result<Capability<'a>, Kind>
     ensures line { MatchResult result (λ c. IsCapability text.now c.key.now (option_copied c.value)) (λ kind. IsNoCapability text.now) }

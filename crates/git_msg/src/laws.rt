@@ -7,6 +7,7 @@ ghost use Rattle.git_names.specs.declared.object_format.Format.{Format};
 ghost use Rattle.git_pkt.specs.Packets.{Pkt};
 ghost use Rattle.git_pkt.specs.Splits.{Given};
 ghost use Rattle.git_pkt.specs.declared.fault.Kind.{Kind};
+ghost use Rattle.git_msg.specs.declared.agent.Agent.{Agent};
 ghost use Rattle.git_msg.specs.declared.arguments.Command.{Command};
 ghost use Rattle.git_msg.specs.declared.offers.Caps.{Caps};
 ghost use Rattle.git_msg.specs.declared.offers.Offer.{Offer};
@@ -14,6 +15,7 @@ ghost use Rattle.git_msg.specs.declared.requests.Request.{Request};
 ghost use Rattle.git_msg.specs.declared.response_lines.Boundary.{Boundary};
 ghost use Rattle.git_msg.specs.declared.response_lines.Info.{Info};
 ghost use Rattle.git_msg.specs.Advertisement.{takes_command};
+ghost use Rattle.git_msg.specs.Agents.{named_if};
 ghost use Rattle.git_msg.specs.Arguments.{Arg, IsArgumentFault, IsNameIn, ReadsAs, stored_in, written_text};
 ghost use Rattle.git_msg.specs.Asked.{Asked, AreOffered, HasValues, arguments_in, asked_by, command_asked, written_bytes};
 ghost use Rattle.git_msg.specs.Capability.{IsCapability, IsNoCapability};
@@ -224,11 +226,11 @@ pub fn one_first_fault()
 /// texts of its lines are within the limit; and nothing refuses the request at its end, as it refuses a fetch without a
 /// want. For SHA-256, `object-format` has to be advertised.
 pub fn written_request_reads_back()
-    ensures { (offer : Offer) (limit : ℕ) (caps : Caps) (asked : Asked) (packets : List Given)
+    ensures { (offer : Offer) (limit : ℕ) (caps : Caps) (agent : Agent) (asked : Asked) (packets : List Given)
         → IsFormatMeant offer.format caps.object_format → takes_command offer (command_asked asked) ≡ true
         → HasValues offer.format asked → AreOffered offer asked
         → written_bytes asked ≤ limit → Passes (end_checks asked)
-        → map (λ g. g.packet) packets ≡ lines_written caps.agent caps.object_format offer.format asked
+        → map (λ g. g.packet) packets ≡ lines_written (named_if caps.agent agent) caps.object_format offer.format asked
         → Asks offer limit packets asked (written_bytes asked) }
 {}
 

@@ -3,6 +3,7 @@
 #![tactic(auto)]
 
 mod admits;
+mod agent;
 mod arguments;
 mod capabilities;
 mod capability_key;
@@ -33,8 +34,9 @@ mod writer;
 mod writing;
 
 pub use crate::admits::{Admits, AdmitsAll};
+pub use crate::agent::Agent;
 pub use crate::arguments::{Argument, Command, read_argument, word_at};
-pub use crate::capabilities::{AGENT_LINE, Capability, read_capability};
+pub use crate::capabilities::{Capability, read_capability};
 pub use crate::fetch::Fetch;
 pub use crate::flags::Flag;
 pub use crate::kept::KeptArguments;

@@ -9,6 +9,7 @@ ghost use Rattle.git_msg.specs.Advertisement.{everything, noted_after, noted_of,
 ghost use Rattle.git_msg.specs.Advertisement.{is_spoken, offers_command, takes_command};
 ghost use Rattle.git_msg.specs.Arguments.{name_of};
 
+use crate::agent::Agent;
 use crate::arguments::Command;
 use crate::capabilities::Capability;
 use crate::texts::{is_word, split_at_first};
@@ -23,8 +24,7 @@ const LONGEST_FORMAT: usize = 6;
 // The maximum length of the word for a feature of `fetch`.
 const LONGEST_FEATURE: usize = 13;
 
-/// The content of a server's advertisement to a client, beside `agent` and the commands `ls-refs` and `fetch`, which every
-/// offer has.
+/// The content of a server's advertisement to a client, beside the commands `ls-refs` and `fetch`, which every offer has.
 #[derive(Clone, Copy, Debug, PartialEq, Eq)]
 pub struct Offer {
     /// The format of the object names in requests and answers.
@@ -43,10 +43,14 @@ pub struct Offer {
     pub object_info: bool,
     /// The capability `server-option`.
     pub server_option: bool,
+    /// The name with which the server introduces itself.
+    // The last field: as the first one it would lie right behind the buffer of a reader of requests. LLVM then copies both as one, and makes
+    // a new reader on the stack, with 64 KiB.
+    pub agent: Agent,
 }
 
 impl Offer {
-    /// An offer of everything, for object names of this format.
+    /// An offer of everything by this library's own agent, for object names of this format.
     pub fn everything(format: Format) -> Offer
         ensures { result ≡ everything format }
     {
@@ -59,10 +63,11 @@ impl Offer {
             filter: true,
             object_info: true,
             server_option: true,
+            agent: Agent::own(),
         }
     }
 
-    /// An offer of nothing that may be left out, for object names of this format.
+    /// An offer of nothing that may be left out by this library's own agent, for object names of this format.
     pub fn nothing(format: Format) -> Offer
         ensures { result ≡ nothing format }
     {
@@ -247,7 +252,8 @@ impl Caps {
         }
     }
 
-    /// The offer to a client that speaks this format.
+    /// The offer to a client that speaks this format. What the server's agent is called is not noted: the offer has this
+    /// library's own.
     pub fn offer(&self, format: Format) -> Offer
         ensures { result ≡ noted_offer self.now format }
     {
@@ -260,6 +266,7 @@ impl Caps {
             filter: self.filter,
             object_info: self.object_info,
             server_option: self.server_option,
+            agent: Agent::own(),
         }
     }
 }

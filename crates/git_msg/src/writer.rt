@@ -4,10 +4,12 @@ ghost use Rattle.std.specs.Bool.{OnTrue, OnFalse};
 ghost use Rattle.git_names.specs.declared.object_format.Format.{Format};
 ghost use Rattle.git_msg.specs.Asked.{Asked};
 ghost use Rattle.git_msg.specs.Machine.HeldRequest.{asked_of};
-ghost use Rattle.git_msg.specs.WrittenRequest.{agent_line, argument_part, format_line, where_set};
+ghost use Rattle.git_msg.specs.Agents.{named_if};
+ghost use Rattle.git_msg.specs.WrittenRequest.{argument_part, format_line, where_named, where_set};
+ghost use Rattle.git_msg.specs.declared.agent.Agent.{Agent};
 ghost use Rattle.git_msg.specs.Machine.RequestWriter.{written_of, PutsFirst, left_at, left_to_write, lines_from, lines_left};
 
-use crate::capabilities::AGENT_LINE;
+use crate::agent::Agent;
 use crate::offers::Caps;
 use crate::requests::Request;
 use crate::writing::{put_argument, put_line};
@@ -18,7 +20,7 @@ use std::alloc::Allocator;
 #[derive(Clone, Copy, Debug)]
 enum Next {
     CommandLine,
-    Agent,
+    AgentLine,
     ObjectFormat,
     Delimiter,
     // The argument at this index, or the flush after the last.
@@ -30,18 +32,24 @@ enum Next {
 /// advertised, the delimiter, its arguments and the flush.
 #[derive(Clone, Copy, Debug)]
 pub struct RequestWriter {
-    agent: bool,
+    agent: Agent,
+    names_agent: bool,
     object_format: bool,
     next: Next,
 }
 
 impl RequestWriter {
-    /// A writer of this request, to a server whose advertisement was noted as `caps`.
-    pub fn new<A: Allocator + Copy>(request: &Request<A>, caps: &Caps) -> RequestWriter
-        ensures { left_to_write result request.now ≡ written_of request.now caps.now }
+    /// A writer of this request from this agent, to a server whose advertisement was noted as `caps`.
+    pub fn new<A: Allocator + Copy>(
+        request: &Request<A>,
+        caps: &Caps,
+        agent: Agent,
+    ) -> RequestWriter
+        ensures { left_to_write result request.now ≡ written_of request.now caps.now agent }
     {
         RequestWriter {
-            agent: caps.agent,
+            agent,
+            names_agent: caps.agent,
             object_format: caps.object_format,
             next: Next::CommandLine,
         }
@@ -78,8 +86,8 @@ impl RequestWriter {
                 put_line(hold, b"command=", request.command().name().as_bytes());
                 Some(self.after_command())
             }
-            Next::Agent => {
-                put(hold, Packet::Payload(AGENT_LINE));
+            Next::AgentLine => {
+                put_line(hold, b"agent=", self.agent.text());
                 Some(self.after_agent())
             }
             Next::ObjectFormat => {
@@ -96,17 +104,17 @@ impl RequestWriter {
     }
 
     fn after_command(&self) -> Next
-        ensures { (format : Format) (asked : Asked) → lines_from result self.now.agent self.now.object_format format asked
-            ≡ where_set self.now.agent agent_line (where_set self.now.object_format (format_line format) (argument_part asked)) }
+        ensures { (format : Format) (asked : Asked) → lines_from result self.now.agent self.now.names_agent self.now.object_format format asked
+            ≡ where_named (named_if self.now.names_agent self.now.agent) (where_set self.now.object_format (format_line format) (argument_part asked)) }
     {
-        if self.agent {
-            return Next::Agent;
+        if self.names_agent {
+            return Next::AgentLine;
         }
         self.after_agent()
     }
 
     fn after_agent(&self) -> Next
-        ensures { (format : Format) (asked : Asked) → lines_from result self.now.agent self.now.object_format format asked
+        ensures { (format : Format) (asked : Asked) → lines_from result self.now.agent self.now.names_agent self.now.object_format format asked
             ≡ where_set self.now.object_format (format_line format) (argument_part asked) }
     {
         if self.object_format {
@@ -118,9 +126,9 @@ impl RequestWriter {
 
 /// Writes the line of the argument at index `i`, or the flush after the last.
 fn put_from<A: Allocator + Copy>(request: &Request<A>, i: usize, hold: &mut Hold) -> Next
-    ensures { (agent object_format : Bool) (format : Format)
-        → PutsFirst (lines_from (Next.Argument i) agent object_format format (asked_of request.now))
-        (lines_from result agent object_format format (asked_of request.now)) hold.new.items }
+    ensures { (agent : Agent) (named object_format : Bool) (format : Format)
+        → PutsFirst (lines_from (Next.Argument i) agent named object_format format (asked_of request.now))
+        (lines_from result agent named object_format format (asked_of request.now)) hold.new.items }
 {
     match request.argument(i) {
         Some(argument) => {

@@ -7,11 +7,13 @@ use Rattle.git_pkt.specs.Digits.{digits_of}
 use Rattle.git_pkt.specs.Packets.{Pkt, body_of, flush, length_field, spelling_of}
 use Rattle.git_msg.specs.declared.arguments.Command.TheVariants.{LsRefs, Fetch}
 use Rattle.git_msg.specs.declared.offers.Offer.{Offer}
+use Rattle.git_msg.specs.Agents.{agent_text}
 use Rattle.git_msg.specs.Features.{capability_text, features_of, offered_words, spaced}
 use Rattle.git_msg.specs.WrittenRequest.{format_line}
 use Rattle.git_server.specs.Answers.{advertisement_of, offered_line, spelled}
 use Rattle.git_server.specs.Machine.AdvertisementLines.{advertisement_after, advertisement_from, advertisement_line_after, advertisement_packet, format_on}
 use Rattle.git_server.specs.declared.advertisement.AdvertisementLine.{AdvertisementLine}
+use Rattle.git_msg.proofs.AgentNames.{agent_is_short}
 use Rattle.git_server.proofs.UnsentPackets.{one_line}
 
 -- how long packets are, each with the four bytes before its body
@@ -58,11 +60,12 @@ offered_more false text ps = omega arith
 offered_more true text ps = omega (arith, length-append text (10 ∷ []))
 
 -- how long the advertisement is, whatever is offered
-pub advertisement_is_short : (offer : Offer) → length (spelled (advertisement_of offer)) < 200
+pub advertisement_is_short : (offer : Offer) → length (spelled (advertisement_of offer)) < 194 + length (agent_text offer.agent)
 advertisement_is_short offer =
     omega (
       arith,
       spelled_length (advertisement_of offer),
+      length-append (agent_text offer.agent) (10 ∷ []),
       line_is_short (codes "ls-refs") (features_of LsRefs offer),
       line_is_short (codes "fetch") (features_of Fetch offer),
       offered_more offer.server_option (codes "server-option") (format_on offer),
@@ -80,11 +83,12 @@ module _ (offer : Offer) (line : AdvertisementLine) (written : List ℕ)
       ∙ ap (λ (l : List Pkt). written ++ spelled l) (sym (one_line offer line)) ∙ whole
 
   -- there is space for it
-  pub line_fits : length written + length (spelling_of (advertisement_packet offer line)) < 200
+  pub line_fits : length written + length (spelling_of (advertisement_packet offer line)) < 257
   line_fits =
       omega (
         arith,
         advertisement_is_short offer,
+        agent_is_short offer.agent,
         ap length line_appended,
         length-append (written ++ spelling_of (advertisement_packet offer line)) (spelled (advertisement_after offer (advertisement_line_after offer line))),
         length-append written (spelling_of (advertisement_packet offer line)),

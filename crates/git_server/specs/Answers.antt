@@ -43,7 +43,7 @@ fetch_line offer = text_line (capability_text (codes "fetch") (fetch_features of
 -- the packets that a server sends first
 abbrev pub advertisement_of : Offer → List Pkt
 advertisement_of offer =
-    text_line (codes "version 2") ∷ agent_line ∷ ls_refs_line offer ∷ fetch_line offer
+    text_line (codes "version 2") ∷ agent_line offer.agent ∷ ls_refs_line offer ∷ fetch_line offer
     ∷ (offered_line offer.server_option (codes "server-option")
     ++ format_line offer.format ∷ (offered_line offer.object_info (codes "object-info") ++ flush ∷ []))
 

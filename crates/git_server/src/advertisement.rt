@@ -3,14 +3,15 @@
 ghost use Rattle.std.specs.Prelude.{◌≡◌, ℕ, ◌+◌, ◌≤◌, ◌<◌, List, ◌∷◌, ◌++◌, [], codes, false, length};
 ghost use Rattle.git_pkt.specs.Machine.PacketReader.{is_open};
 ghost use Rattle.git_pkt.specs.Packets.{body_of, longest_payload, payload, spelling_of};
+ghost use Rattle.git_msg.specs.Agents.{agent_text};
 ghost use Rattle.git_msg.specs.Features.{capability_text, fetch_features, ls_refs_features, where_offered};
 ghost use Rattle.git_server.specs.Machine.AdvertisementLines.{Names, advertisement_line_after, advertisement_packet, separator_after};
 ghost use Rattle.git_server.specs.Answers.{advertisement_of, spelled};
 ghost use Rattle.git_server.specs.Machine.WrittenPackets.{Writes};
 
-use crate::packets::append_packet;
+use crate::packets::{append_line, append_packet};
 use arrayvec::ArrayString;
-use git_msg::{AGENT_LINE, Offer};
+use git_msg::Offer;
 use git_names::Format;
 use git_pkt::{Hold, Packet, PacketReader};
 
@@ -19,10 +20,10 @@ const LONGEST_LINE: usize = 47;
 
 /// Sets the buffer to the packets of the whole advertisement of an offer, one after another: a session sends them first.
 ///
-/// They have fewer than 200 bytes.
+/// They have fewer than 257 bytes, 57 fewer for this library's own agent.
 pub fn put_advertisement(hold: &mut Hold, offer: &Offer)
     ensures written { hold.new.items ≡ spelled (advertisement_of offer.now) }
-    ensures short { length hold.new.items < 200 }
+    ensures short { length hold.new.items < 194 + length (agent_text offer.now.agent) }
 {
     hold.clear();
     let mut next = Some(AdvertisementLine::Version);
@@ -71,7 +72,7 @@ impl AdvertisementLine {
     {
         match self {
             AdvertisementLine::Version => append_packet(hold, Packet::Payload(b"version 2\n")),
-            AdvertisementLine::Agent => append_packet(hold, Packet::Payload(AGENT_LINE)),
+            AdvertisementLine::Agent => append_line(hold, b"agent=", offer.agent.text()),
             AdvertisementLine::LsRefs => append_text(hold, &ls_refs_line(offer)),
             AdvertisementLine::Fetch => append_text(hold, &fetch_line(offer)),
             AdvertisementLine::ServerOption => {

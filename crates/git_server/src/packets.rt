@@ -44,6 +44,16 @@ pub(crate) fn append_packet(hold: &mut Hold, packet: Packet<'_>)
     }
 }
 
+/// Appends the packet of a line: a word and the value after it. The buffer must have space for it.
+pub(crate) fn append_line(hold: &mut Hold, word: &[u8], value: &[u8])
+    requires { length hold.old.items + length (spelling_of (text_line (word.now ++ value.now))) ≤ 65520 }
+    ensures { hold.new.items ≡ hold.old.items ++ spelling_of (text_line (word.now ++ value.now)) }
+{
+    append_spelling(hold, word.len() + value.len() + 5, word);
+    append(hold, value);
+    append(hold, b"\n");
+}
+
 // Appends four digits and then the body.
 fn append_spelling(hold: &mut Hold, field: usize, body: &[u8])
     requires digits { field < 65536 }

@@ -1,5 +1,5 @@
 -- What a writer for C reports, and what it leaves in the buffer, is determined by the values that C passes and the buffer.
-use Rattle.std.proofs.Common.{◌≡◌, ℕ, ◌≤◌, List, [], ◌∷◌, length, length-append, Option, Some, None, Ok, Err}
+use Rattle.std.proofs.Common.{◌≡◌, ℕ, ◌≤◌, List, [], ◌∷◌, ◌++◌, codes, drop, true, length, length-append, Option, Some, None, Ok, Err}
 use Rattle.std.proofs.Common.{sym, ◌∙◌, ap, refl, subst, inl, inr, arith}
 use Rattle.std.proofs.lemmas.Bool.Decides.{leb_tells}
 use Rattle.git_names.specs.ObjectName.{ObjectName}
@@ -10,6 +10,8 @@ use Rattle.git_pkt.specs.Bands.{band_packet}
 use Rattle.git_pkt.specs.Packets.{Pkt, flush, delim, resp_end, payload, body_of, longest_payload, spelling_of}
 use Rattle.git_pkt.specs.declared.band.Band.{Band}
 use Rattle.git_pkt.proofs.Bands.{one_band}
+use Rattle.git_msg.specs.AgentNames.{is_agent}
+use Rattle.git_msg.specs.declared.agent.Agent.{Agent}
 use Rattle.git_msg.specs.Checks.{Check, Passes, Refuses}
 use Rattle.git_msg.specs.References.{IsMaybeObjectName, reference_of, reference_text}
 use Rattle.git_msg.specs.ResponseLines.{wanted_of, wanted_text}
@@ -18,6 +20,7 @@ use Rattle.git_msg.proofs.CheckLaws.{AllFair, IsFair, fair_check, one_name, pass
 use Rattle.git_msg.specs.declared.offers.Offer.{Offer}
 use Rattle.git_server.specs.Answers.{advertisement_of, spelled}
 use Rattle.gitwire.specs.Numbers.{formats, numbered}
+use Rattle.gitwire.specs.Offers.{MeansAgent, MeansNoAgent, name_meant, offer_by}
 use Rattle.gitwire.specs.Buffers.{Fills}
 use Rattle.gitwire.specs.WrittenForC.{Advertises, InFormat, IsDetermined, IsLineOf, IsOfKind, IsReferenceOf, Meant, Announces, announcing_why}
 use Rattle.gitwire.specs.WrittenForC.{MeansBand, MeansLine, MeansLineOf, MeansPacket, MeansReference, MeansWanted}
@@ -56,11 +59,21 @@ pub determined : (Means : Meant → Type 0) → IsOne Means → IsDetermined Mea
 determined Means one buffer answer other filled others w v =
     answer_once Means one w.meant v.meant w.means v.means buffer answer other filled others w.announces v.announces
 
-pub advertised_once : (offer : Option Offer) (buffer : List ℕ) (answer other : GitwireAnswer) (filled others : List ℕ)
-    → Advertises offer buffer answer filled → Advertises offer buffer other others → (answer ≡ other) × (filled ≡ others)
-advertised_once None buffer answer other filled others h k = (h.0 ∙ sym k.0, h.1 ∙ sym k.1)
-advertised_once (Some offer) buffer answer other filled others h k =
-    fills_once (spelled (advertisement_of offer)) buffer answer other filled others h.1 k.1
+-- a text that means an agent means one
+some_agent : (name : List ℕ) (agent : Agent) → MeansAgent name agent → MeansNoAgent name → ⊥
+some_agent name agent means none = let is : is_agent (name_meant name) ≡ true = subst (λ (text : List ℕ). is_agent text ≡ true) means agent.named in cc
+
+pub advertised_once : (offer : Option Offer) (name buffer : List ℕ) (answer other : GitwireAnswer) (filled others : List ℕ)
+    → Advertises offer name buffer answer filled → Advertises offer name buffer other others → (answer ≡ other) × (filled ≡ others)
+advertised_once None name buffer answer other filled others h k = (h.0 ∙ sym k.0, h.1 ∙ sym k.1)
+advertised_once (Some offer) name buffer answer other filled others (inl h) (inl k) = (h.1 ∙ sym k.1, h.2 ∙ sym k.2)
+advertised_once (Some offer) name buffer answer other filled others (inl h) (inr k) = absurd (some_agent name k.0 k.1 h.0)
+advertised_once (Some offer) name buffer answer other filled others (inr h) (inl k) = absurd (some_agent name h.0 h.1 k.0)
+advertised_once (Some offer) name buffer answer other filled others (inr h) (inr k) =
+    let same : advertisement_of (offer_by h.0 offer) ≡ advertisement_of (offer_by k.0 offer) =
+    ap (λ (text : List ℕ). text_line (codes "version 2") ∷ text_line (codes "agent=" ++ text) ∷ drop 2 (advertisement_of offer)) (h.1 ∙ sym k.1) in
+    fills_once (spelled (advertisement_of (offer_by h.0 offer))) buffer answer other filled others h.2.1
+    (subst (λ (packets : List Pkt). Fills (spelled packets) buffer other others) (sym same) k.2.1)
 
 -- packets of any subject
 

@@ -1,5 +1,5 @@
 -- What is reported to C for a client's calls.
-use Rattle.std.specs.Prelude.{◌≡◌, ℕ, ◌+◌, ◌<◌, ◌≤◌, Bool, true, false, List, [], ◌∷◌, ◌++◌, length, take, Option, Some, None, MatchOption, IsSomeAnd}
+use Rattle.std.specs.Prelude.{◌≡◌, ◌⊎◌, ℕ, ◌+◌, ◌<◌, ◌≤◌, Bool, true, false, List, [], ◌∷◌, ◌++◌, length, take, Option, Some, None, MatchOption, IsSomeAnd}
 use Rattle.std.specs.Prelude.{is_none, unwrap_or}
 use Rattle.std.specs.Global.{Global}
 use Rattle.git_names.specs.declared.object_format.Format.{Format}
@@ -13,7 +13,8 @@ use Rattle.git_client.specs.Machine.Client.{Asks, Converses, EndsWithMessage, En
 use Rattle.git_client.specs.Machine.Client.{can_ask, caps_of, fault_of, given_by, is_of_any_format, nothing_yet, wants_input}
 use Rattle.git_client.specs.Machine.Choosing.{ChoosesFormat}
 use Rattle.git_client.specs.Conversation.{HasNoted}
-use Rattle.git_client.specs.Parts.{Terms, terms_of}
+use Rattle.git_msg.specs.declared.agent.Agent.{Agent}
+use Rattle.git_client.specs.Parts.{Terms, terms_by}
 use Rattle.git_client.specs.declared.client.Client.{Client}
 use Rattle.git_client.specs.declared.events.Ending.{Ending}
 use Rattle.git_client.specs.declared.events.Ending.TheVariants.{FlushOnly, ResponseEnd}
@@ -24,7 +25,7 @@ use Rattle.git_client.specs.declared.events.ReceivedGot.TheVariants as Got
 use Rattle.git_client.specs.declared.events.Sent.{Sent}
 use Rattle.gitwire.specs.EventAnswers.{answering_refusal, copied_of, shown_at, announcing_none}
 use Rattle.gitwire.specs.Numbers.{format_number}
-use Rattle.gitwire.specs.Offers.{features_shown, is_noted}
+use Rattle.gitwire.specs.Offers.{MeansAgent, MeansNoAgent, features_shown, is_noted}
 use Rattle.gitwire.specs.Buffers.{put_before}
 use Rattle.gitwire.specs.Answers.{more_of, answering, answering_fault, answering_packet, what_number}
 use Rattle.gitwire.specs.declared.event.GitwireEvent.{GitwireEvent}
@@ -39,21 +40,24 @@ endings = FlushOnly ∷ ResponseEnd ∷ []
 abbrev pub choices : List (Option Format)
 choices = Some Sha1 ∷ Some Sha256 ∷ None ∷ []
 
--- a client by this choice, before the first byte; one of any format has SHA-1 until it chooses
-pub record IsNew (choice : Option Format) (ending : Ending) (client : Client Global) : Type 0 where
-  pub converses : Converses (terms_of (unwrap_or choice Sha1) ending) nothing_yet client
+-- a client by this choice that names this agent, before the first byte; one of any format has SHA-1 until it chooses
+pub record IsNew (choice : Option Format) (ending : Ending) (name : List ℕ) (client : Client Global) : Type 0 where
+  pub agent : Agent
+  pub means : MeansAgent name agent
+  pub converses : Converses (terms_by agent (unwrap_or choice Sha1) ending) nothing_yet client
   pub waits : wants_input client ≡ true
   pub any : is_of_any_format client ≡ is_none choice
 
 -- a new client by this choice, or none if memory ran out
-abbrev pub Begins : Option Format → Ending → ℕ → Option (Client Global) → Type 0
-Begins choice ending answer None = answer ≡ what_number What.OutOfMemory
-Begins choice ending answer (Some client) = (answer ≡ what_number What.Done) × IsNew choice ending client
+abbrev pub Begins : Option Format → Ending → List ℕ → ℕ → Option (Client Global) → Type 0
+Begins choice ending name answer new =
+    MatchOption new (answer ≡ what_number What.OutOfMemory) (λ client. (answer ≡ what_number What.Done) × IsNew choice ending name client)
 
--- the client that two numbers mean; nothing changes if one of them means nothing
-abbrev pub BeginsBy : Option (Option Format) → Option Ending → Option (Client Global) → ℕ → Option (Client Global) → Type 0
-BeginsBy (Some choice) (Some ending) old answer new = Begins choice ending answer new
-BeginsBy choice ending old answer new = (answer ≡ what_number What.BadValue) × (new ≡ old)
+-- the client that two numbers and the name of an agent mean; nothing changes if one of them means nothing
+abbrev pub BeginsBy : Option (Option Format) → Option Ending → List ℕ → Option (Client Global) → ℕ → Option (Client Global) → Type 0
+BeginsBy (Some choice) (Some ending) name old answer new =
+    (MeansNoAgent name × (answer ≡ what_number What.BadValue) × (new ≡ old)) ⊎ Begins choice ending name answer new
+BeginsBy choice ending name old answer new = (answer ≡ what_number What.BadValue) × (new ≡ old)
 
 -- the number of the conversation's format; 0 if it is not known
 abbrev pub format_shown : Option Format → ℕ

@@ -8,6 +8,7 @@ use Rattle.git_names.specs.declared.object_format.Format.{Format}
 use Rattle.git_names.specs.declared.reference.RefName.{RefName}
 use Rattle.git_pkt.specs.declared.fault.Kind.{Kind}
 use Rattle.git_pkt.specs.declared.fault.Kind.TheVariants.{BadLine, BadObjectName, BadRefName}
+use Rattle.git_msg.specs.declared.agent.Agent.{Agent}
 use Rattle.git_msg.specs.Arguments.{most_limit}
 use Rattle.git_msg.specs.Asked.{Asked, arguments_in, command_asked}
 use Rattle.git_msg.specs.Checks.{Check, Refuses}
@@ -26,7 +27,7 @@ use Rattle.git_host.specs.declared.report.Need.{Need}
 use Rattle.git_host.specs.declared.report.Report.{Report}
 use Rattle.gitwire.specs.Answers.{answering, answering_fault, answering_packet, answering_used, ending, more_of, what_number}
 use Rattle.gitwire.specs.Numbers.{command_number}
-use Rattle.gitwire.specs.Offers.{offer_meant}
+use Rattle.gitwire.specs.Offers.{MeansAgent, MeansNoAgent, offer_by, offer_meant}
 use Rattle.gitwire.specs.RequestAnswers.{HasOrNone, PutsFrom, is_set, announcing_which}
 use Rattle.gitwire.specs.Buffers.{put_before}
 use Rattle.gitwire.specs.WrittenForC.{boundary_of, given, object_name_check, ref_name_check, where_given}
@@ -36,22 +37,24 @@ use Rattle.gitwire.specs.declared.host_texts.Unread.{Unread}
 
 -- ---- a session begins
 
--- the number means no format or a bit no feature, or the limit is above the maximum
-abbrev pub MeanNoHost : ℕ → ℕ → ℕ → Type 0
-MeanNoHost format features limit = (offer_meant format features ≡ None) ⊎ (most_limit < limit)
+-- the number means no format or a bit no feature, the limit is above the maximum, or the name is no agent's
+abbrev pub MeanNoHost : ℕ → ℕ → ℕ → List ℕ → Type 0
+MeanNoHost format features limit name = (offer_meant format features ≡ None) ⊎ ((most_limit < limit) ⊎ MeansNoAgent name)
 
--- a host's server at the beginning of a session, with the offer and the limit that these values mean
-pub record MeanHost (format features limit : ℕ) (advertise : Bool) (host : HostServer Global) : Type 0 where
+-- a host's server at the beginning of a session, with the offer, the limit and the agent that these values mean
+pub record MeanHost (format features limit : ℕ) (advertise : Bool) (name : List ℕ) (host : HostServer Global) : Type 0 where
   pub meant : Offer
   pub offer_is : offer_meant format features ≡ Some meant
   pub in_range : limit ≤ most_limit
-  pub begins : Hosts (setting_of meant limit advertise) [] false [] [] host
+  pub agent : Agent
+  pub means : MeansAgent name agent
+  pub begins : Hosts (setting_of (offer_by agent meant) limit advertise) [] false [] [] host
 
 -- it is made, or nothing changes
-abbrev pub MakesHost : ℕ → ℕ → ℕ → Bool → Option (HostServer Global) → ℕ → Option (HostServer Global) → Type 0
-MakesHost format features limit advertise old answer new =
-    (MeanNoHost format features limit × (answer ≡ what_number What.BadValue) × (new ≡ old))
-    ⊎ ((host : HostServer Global) × MeanHost format features limit advertise host × HasOrNone answer host new)
+abbrev pub MakesHost : ℕ → ℕ → ℕ → Bool → List ℕ → Option (HostServer Global) → ℕ → Option (HostServer Global) → Type 0
+MakesHost format features limit advertise name old answer new =
+    (MeanNoHost format features limit name × (answer ≡ what_number What.BadValue) × (new ≡ old))
+    ⊎ ((host : HostServer Global) × MeanHost format features limit advertise name host × HasOrNone answer host new)
 
 -- ---- the client's bytes
 

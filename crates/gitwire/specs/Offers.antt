@@ -1,7 +1,10 @@
 -- What a server advertises, as C passes it, and what was noted of an advertisement, as C is shown it: a bit for each feature.
-use Rattle.std.specs.Prelude.{ℕ, ◌+◌, Bool, true, false, not, ◌==◌, nat_lt, if◌then◌else◌, List, [], ◌∷◌, Option, None, unwrap_or}
+use Rattle.std.specs.Prelude.{◌≡◌, ℕ, ◌+◌, Bool, true, false, not, ◌==◌, nat_lt, if◌then◌else◌, List, [], ◌∷◌, Option, None, unwrap_or}
 use Rattle.std.specs.Int.Bits.{bit_and}
 use Rattle.std.specs.Option.{option_map}
+use Rattle.git_msg.specs.AgentNames.{is_agent}
+use Rattle.git_msg.specs.Agents.{agent_text, own_agent}
+use Rattle.git_msg.specs.declared.agent.Agent.{Agent}
 use Rattle.git_msg.specs.declared.offers.Caps.{Caps}
 use Rattle.git_msg.specs.declared.offers.Offer.{Offer}
 use Rattle.gitwire.specs.Numbers.{formats, numbered}
@@ -22,7 +25,24 @@ offer_meant number features =
       filter = has_feature features 64;
       object_info = has_feature features 32;
       server_option = has_feature features 16;
+      agent = own_agent;
     }) (numbered formats number)
+
+-- the agent's name that a text of C means: an empty text means this library's own
+abbrev pub name_meant : List ℕ → List ℕ
+name_meant [] = agent_text own_agent
+name_meant text = text
+
+-- the text means this agent, or none
+abbrev pub MeansAgent : List ℕ → Agent → Type 0
+MeansAgent text agent = agent_text agent ≡ name_meant text
+
+abbrev pub MeansNoAgent : List ℕ → Type 0
+MeansNoAgent text = is_agent (name_meant text) ≡ false
+
+-- the offer by another agent
+abbrev pub offer_by : Agent → Offer → Offer
+offer_by agent offer = record offer { agent = agent }
 
 -- a bit, if its feature was noted
 abbrev pub where_shown : Bool → ℕ → ℕ

@@ -1,8 +1,9 @@
 -- What is reported to C for a server's calls.
-use Rattle.std.specs.Prelude.{◌≡◌, ◌⊎◌, ℕ, ◌≤◌, ◌<◌, Bool, true, false, List, [], length, take, Option, Some, None, IsSome}
+use Rattle.std.specs.Prelude.{◌≡◌, MatchOption, ◌⊎◌, ℕ, ◌≤◌, ◌<◌, Bool, true, false, List, [], length, take, Option, Some, None, IsSome}
 use Rattle.std.specs.Global.{Global}
 use Rattle.git_msg.specs.Advertisement.{everything}
 use Rattle.git_msg.specs.Arguments.{most_limit}
+use Rattle.git_msg.specs.declared.agent.Agent.{Agent}
 use Rattle.git_server.specs.Machine.Server.{Running, outcome_of, repo_of, wants_input}
 use Rattle.git_server.specs.Machine.ServerCalls.{Closes, Goes, Pulls, StopsInTime}
 use Rattle.git_server.specs.Machine.SharedRepo.{shared_by, shared_state}
@@ -10,16 +11,17 @@ use Rattle.git_server.specs.declared.server.Pulled.{Pulled}
 use Rattle.git_server.specs.declared.server.Pulled.TheVariants.{Packet, NeedInput, Finished}
 use Rattle.git_server.specs.declared.server.Server.{Server}
 use Rattle.git_server.specs.declared.shared_repo.SharedRepo.{SharedRepo}
+use Rattle.gitwire.specs.Offers.{MeansAgent, MeansNoAgent, offer_by}
 use Rattle.gitwire.specs.Buffers.{put_before}
 use Rattle.gitwire.specs.Answers.{more_of, answering, answering_packet, answering_used, ending, what_number}
 use Rattle.gitwire.specs.declared.answer.GitwireAnswer.{GitwireAnswer}
 use Rattle.gitwire.specs.declared.answer.What.TheVariants as What
 
--- a server at the beginning of its session over the repository, which advertises all
-pub record Starts (repository : SharedRepo) (limit : ℕ) (advertise : Bool) (server : Server SharedRepo Global) : Type 0 where
+-- a server at the beginning of its session over the repository, which advertises all by this agent
+pub record Starts (repository : SharedRepo) (limit : ℕ) (advertise : Bool) (agent : Agent) (server : Server SharedRepo Global) : Type 0 where
   pub running : Running shared_state
       (record {
-        offer = everything (shared_state repository).answers.format;
+        offer = offer_by agent (everything (shared_state repository).answers.format);
         limit = limit;
         advertise = advertise;
         repo = (shared_state repository).answers;
@@ -27,21 +29,23 @@ pub record Starts (repository : SharedRepo) (limit : ℕ) (advertise : Bool) (se
       }) [] false [] server
   pub shares : shared_by (repo_of server) ≡ shared_by repository
 
--- such a server, or none if memory ran out
-abbrev pub Begins : SharedRepo → ℕ → Bool → ℕ → Option (Server SharedRepo Global) → Type 0
-Begins repository limit advertise answer None = answer ≡ what_number What.OutOfMemory
-Begins repository limit advertise answer (Some server) = (answer ≡ what_number What.Done) × Starts repository limit advertise server
+-- such a server by the agent of this name, or none if memory ran out
+abbrev pub Begins : SharedRepo → ℕ → Bool → List ℕ → ℕ → Option (Server SharedRepo Global) → Type 0
+Begins repository limit advertise name answer new =
+    MatchOption new (answer ≡ what_number What.OutOfMemory)
+    (λ server. (answer ≡ what_number What.Done) × ((agent : Agent) × MeansAgent name agent × Starts repository limit advertise agent server))
 
--- nothing changes if the limit is above the maximum
-pub record BeginsWithin (repository : SharedRepo) (limit : ℕ) (advertise : Bool) (old : Option (Server SharedRepo Global)) (answer : ℕ)
+-- nothing changes if the limit is above the maximum, or the name is no agent's
+pub record BeginsWithin (repository : SharedRepo) (limit : ℕ) (advertise : Bool) (name : List ℕ) (old : Option (Server SharedRepo Global)) (answer : ℕ)
     (new : Option (Server SharedRepo Global)) : Type 0 where
   pub too_much : most_limit < limit → (answer ≡ what_number What.BadValue) × (new ≡ old)
-  pub in_range : limit ≤ most_limit → Begins repository limit advertise answer new
+  pub in_range : limit ≤ most_limit
+      → (MeansNoAgent name × (answer ≡ what_number What.BadValue) × (new ≡ old)) ⊎ Begins repository limit advertise name answer new
 
 -- a server over the repository of a handle; nothing changes if that has none
-abbrev pub BeginsOver : Option SharedRepo → ℕ → Bool → Option (Server SharedRepo Global) → ℕ → Option (Server SharedRepo Global) → Type 0
-BeginsOver None limit advertise old answer new = (answer ≡ what_number What.NoRequest) × (new ≡ old)
-BeginsOver (Some repository) limit advertise old answer new = BeginsWithin repository limit advertise old answer new
+abbrev pub BeginsOver : Option SharedRepo → ℕ → Bool → List ℕ → Option (Server SharedRepo Global) → ℕ → Option (Server SharedRepo Global) → Type 0
+BeginsOver None limit advertise name old answer new = (answer ≡ what_number What.NoRequest) × (new ≡ old)
+BeginsOver (Some repository) limit advertise name old answer new = BeginsWithin repository limit advertise name old answer new
 
 -- the server uses bytes of the chunk, and it is reported to C how many
 pub record FeedsAnswers (old : Server SharedRepo Global) (chunk : List ℕ) (answer : GitwireAnswer) (new : Server SharedRepo Global) : Type 0 where

@@ -1,5 +1,5 @@
 -- The packets that are written for C, each to the front of a buffer: what the values that C passes mean, and what is reported to C.
-use Rattle.std.specs.Prelude.{◌≡◌, ◌≢◌, ℕ, ◌<◌, ◌≤◌, Bool, true, false, List, [], ◌∷◌, ◌++◌, length, codes}
+use Rattle.std.specs.Prelude.{◌≡◌, ◌≢◌, ◌⊎◌, ℕ, ◌<◌, ◌≤◌, Bool, true, false, List, [], ◌∷◌, ◌++◌, length, codes}
 use Rattle.std.specs.Prelude.{Option, Some, None, IsSome, Result, Ok, Err}
 use Rattle.std.specs.Bool.{then_some}
 use Rattle.git_names.specs.ObjectName.{ObjectName, IsObjectName, IsNoObjectName}
@@ -18,9 +18,11 @@ use Rattle.git_msg.specs.WrittenRequest.{text_line}
 use Rattle.git_msg.specs.declared.response_lines.Info.{Info}
 use Rattle.git_msg.specs.declared.response_lines.Boundary.{Boundary}
 use Rattle.git_msg.specs.declared.response_lines.Boundary.TheVariants.{Shallow, Unshallow}
+use Rattle.git_msg.specs.declared.agent.Agent.{Agent}
 use Rattle.git_msg.specs.declared.offers.Offer.{Offer}
 use Rattle.git_server.specs.Answers.{advertisement_of, spelled}
 use Rattle.gitwire.specs.Numbers.{formats, numbered}
+use Rattle.gitwire.specs.Offers.{MeansAgent, MeansNoAgent, offer_by}
 use Rattle.gitwire.specs.Buffers.{Fills}
 use Rattle.gitwire.specs.Answers.{answering, answering_fault, what_number}
 use Rattle.gitwire.specs.declared.answer.GitwireAnswer.{GitwireAnswer}
@@ -62,11 +64,17 @@ abbrev pub Makes : (Meant → Type 0) → Result (Unit {0}) Unwritten → List �
 Makes Means (Ok _) held = (packet : Pkt) × Means (Ok packet) × (length (body_of packet) ≤ longest_payload) × (held ≡ spelling_of packet)
 Makes Means (Err why) held = Means (Err why)
 
--- the packets of the advertisement of the offer that C means, one after another
-abbrev pub Advertises : Option Offer → List ℕ → GitwireAnswer → List ℕ → Type 0
-Advertises None buffer answer filled = (answer ≡ answering a_bad_value) × (filled ≡ buffer)
-Advertises (Some offer) buffer answer filled =
-    (length (spelled (advertisement_of offer)) < 200) × Fills (spelled (advertisement_of offer)) buffer answer filled
+-- the packets of the advertisement of an offer, one after another
+abbrev pub FillsWithOffer : Offer → List ℕ → GitwireAnswer → List ℕ → Type 0
+FillsWithOffer offer buffer answer filled =
+    (length (spelled (advertisement_of offer)) < 257) × Fills (spelled (advertisement_of offer)) buffer answer filled
+
+-- the advertisement of the offer that C means, by the agent of this name
+abbrev pub Advertises : Option Offer → List ℕ → List ℕ → GitwireAnswer → List ℕ → Type 0
+Advertises None name buffer answer filled = (answer ≡ answering a_bad_value) × (filled ≡ buffer)
+Advertises (Some offer) name buffer answer filled =
+    (MeansNoAgent name × (answer ≡ answering a_bad_value) × (filled ≡ buffer))
+    ⊎ ((agent : Agent) × MeansAgent name agent × FillsWithOffer (offer_by agent offer) buffer answer filled)
 
 -- a handle has a writer, or none if memory ran out
 abbrev pub BeginsToWrite : ℕ → Option (List ℕ) → Type 0

@@ -2,7 +2,7 @@
 
 ghost use Rattle.std.specs.Prelude.{◌≡◌, None, MatchResult, false};
 ghost use Rattle.gitwire.specs.Calls.{HasNone, Of, On};
-ghost use Rattle.gitwire.specs.ClientAnswers.{AdvertisesAnswer, AsksIn, BeginsBy, ClosesAnswers, FeaturesAnswer, FeedsInBuffer, IsNew, ReceivesNone};
+ghost use Rattle.gitwire.specs.ClientAnswers.{AdvertisesAnswer, AsksIn, BeginsBy, ClosesAnswers, FeaturesAnswer, FeedsInBuffer, ReceivesNone};
 ghost use Rattle.gitwire.specs.ClientAnswers.{LeavesRequest, LeavesAnswers, MessageAnswers, PullsInBuffer, TakesRequest, choices, endings, format_shown};
 ghost use Rattle.gitwire.specs.Handles.{client_in, request_in};
 ghost use Rattle.git_client.specs.Machine.Choosing.{format_known};
@@ -14,7 +14,7 @@ use crate::event::GitwireEvent;
 use crate::event_list::list;
 use crate::handles::{GitwireClient, GitwireRequest, Holds, fill, on};
 use crate::numbers::number_of_format;
-use crate::offer::{features_noted, key_noted};
+use crate::offer::{agent_named, features_noted, key_noted};
 use git_client::{Client, Ending, ReceivedGot, Sent};
 use git_msg::{Command, Limits, Request};
 use git_names::{Format, Steps};
@@ -26,16 +26,18 @@ use std::mem::replace;
 pub(crate) const LONGEST_PARTS: usize = 65_516;
 
 /// Makes the handle's client a new one, before the first byte of the advertisement. What it had before is freed. The format is `SHA1`,
-/// `SHA256` or `FORMAT_ANY`. `Done`; `BadValue`, and the handle is unchanged, for a number that means no format or no ending; or
-/// `OutOfMemory`, and the handle has none.
+/// `SHA256` or `FORMAT_ANY`. The client names this agent, or this library's own if the name is empty. `Done`; `BadValue`, and the handle is
+/// unchanged, for a number that means no format or no ending, and for a text that is no agent's name; or `OutOfMemory`, and the handle has
+/// none.
 #[unsafe(no_mangle)]
 pub extern "C" fn gitwire_client_init(
     alloc: Global,
     client: &mut GitwireClient,
     format: u32,
     ending: u32,
+    agent: &[u8],
 ) -> u32
-    ensures { BeginsBy (numbered choices format) (numbered endings ending) (client_in client.old) result (client_in client.new) }
+    ensures { BeginsBy (numbered choices format) (numbered endings ending) agent.now (client_in client.old) result (client_in client.new) }
 {
     let Some(choice) = choice_numbered(format) else {
         return What::BadValue.number();
@@ -43,8 +45,11 @@ pub extern "C" fn gitwire_client_init(
     let Some(ending) = ending_numbered(ending) else {
         return What::BadValue.number();
     };
+    let Some(agent) = agent_named(agent) else {
+        return What::BadValue.number();
+    };
     *client = GitwireClient::none(alloc);
-    let Ok(made) = Box::new(alloc, begin(choice, ending)) else {
+    let Ok(made) = Box::new(alloc, Client::with_agent(agent, choice, ending)) else {
         return What::OutOfMemory.number();
     };
     fill(client, alloc, made).number()
@@ -59,16 +64,6 @@ fn choice_numbered(number: u32) -> Option<Option<Format>>
         2 => Some(Some(Format::Sha256)),
         3 => Some(None),
         _ => None,
-    }
-}
-
-/// A new client by this choice of its format.
-fn begin(choice: Option<Format>, ending: Ending) -> Client<Global>
-    ensures { IsNew choice ending result }
-{
-    match choice {
-        Some(format) => Client::new(format, ending),
-        None => Client::new_of_any_format(ending),
     }
 }
 

@@ -14,19 +14,19 @@ use crate::answer::{GitwireAnswer, What};
 use crate::buffers::put_bytes;
 use crate::handles::{GitwireHost, Holds, fill, on};
 use crate::numbers::number_of_command;
-use crate::offer::offer_numbered;
+use crate::offer::{agent_named, offer_numbered};
 use crate::request::MOST_LIMIT;
 use git_host::{HostServer, HostStep, LONGEST_REFUSAL, Need};
-use git_msg::Limits;
+use git_msg::{Limits, Offer};
 use git_names::Steps;
 use git_pkt::{Fault, Kind, LONGEST_PACKET};
 use std::alloc::Global;
 use std::mem::replace;
 
 /// Makes the handle's server a new one over a store that is asked. It advertises this format and the features of this sum, keeps at most
-/// `limit` bytes of a request's arguments, and sends the advertisement first if `advertise` is set. What the handle had before is freed.
-/// `Done`; `BadValue`, and the handle is unchanged, if the format's number means none, a bit no feature, or the limit is above
-/// 1,073,741,824; or `OutOfMemory`, and the handle has none.
+/// `limit` bytes of a request's arguments, and sends the advertisement first if `advertise` is set: by this agent, or by this library's own
+/// if the name is empty. What the handle had before is freed. `Done`; `BadValue`, and the handle is unchanged, if the format's number means
+/// none, a bit no feature, the limit is above 1,073,741,824, or the text is no agent's name; or `OutOfMemory`, and the handle has none.
 #[unsafe(no_mangle)]
 pub extern "C" fn gitwire_host_init(
     alloc: Global,
@@ -35,10 +35,11 @@ pub extern "C" fn gitwire_host_init(
     features: u32,
     limit: u32,
     advertise: bool,
+    agent: &[u8],
 ) -> u32
-    ensures { MakesHost format features limit advertise (host_in host.old) result (host_in host.new) }
+    ensures { MakesHost format features limit advertise agent.now (host_in host.old) result (host_in host.new) }
 {
-    let Some(meant) = host_meant(alloc, format, features, limit, advertise) else {
+    let Some(meant) = host_meant(alloc, format, features, limit, advertise, agent) else {
         return What::BadValue.number();
     };
     *host = GitwireHost::none(alloc);
@@ -55,8 +56,9 @@ fn host_meant(
     features: u32,
     limit: u32,
     advertise: bool,
+    agent: &[u8],
 ) -> Option<HostServer<Global>>
-    ensures { MatchOption result (MeanNoHost format features limit) (MeanHost format features limit advertise) }
+    ensures { MatchOption result (MeanNoHost format features limit agent.now) (MeanHost format features limit advertise agent.now) }
 {
     let Some(offer) = offer_numbered(format, features) else {
         return None;
@@ -64,7 +66,11 @@ fn host_meant(
     if limit > MOST_LIMIT {
         return None;
     }
-    Some(HostServer::new(alloc, offer, Limits { args: limit }, advertise))
+    let Some(agent) = agent_named(agent) else {
+        return None;
+    };
+    let named = Offer { agent, ..offer };
+    Some(HostServer::new(alloc, named, Limits { args: limit }, advertise))
 }
 
 /// Takes bytes of the input: all of them, or those up to the end of a request, a flush instead of one, or an error. If the server expects

@@ -21,8 +21,8 @@ pub fn writers_have_one_result()
     ensures boundary { (format : ℕ) (shallow : Bool) (id : List ℕ) → IsDetermined (MeansBoundary format shallow id) }
     ensures wanted { (format : ℕ) (id name : List ℕ) → IsDetermined (MeansWanted format id name) }
     ensures info { (format : ℕ) (id : List ℕ) (has_size : Bool) (size : ℕ) → IsDetermined (MeansInfo format id has_size size) }
-    ensures advertisement { (format features : ℕ) (buffer : List ℕ) (answer other : GitwireAnswer) (filled others : List ℕ)
-        → Advertises (offer_meant format features) buffer answer filled → Advertises (offer_meant format features) buffer other others
+    ensures advertisement { (format features : ℕ) (name buffer : List ℕ) (answer other : GitwireAnswer) (filled others : List ℕ)
+        → Advertises (offer_meant format features) name buffer answer filled → Advertises (offer_meant format features) name buffer other others
         → (answer ≡ other) × (filled ≡ others) }
 {}
 

@@ -1,11 +1,11 @@
 //! What a server advertises, as C passes it, and what a client noted of that, as C asks for it: the number of a format, the sum of features, and
 //! the numbers of keys.
 
-ghost use Rattle.std.specs.Prelude.{◌≡◌, ◌≤◌};
-ghost use Rattle.gitwire.specs.Offers.{features_shown, has_feature, is_noted, offer_meant, where_shown};
+ghost use Rattle.std.specs.Prelude.{◌≡◌, ◌≤◌, MatchOption};
+ghost use Rattle.gitwire.specs.Offers.{MeansAgent, MeansNoAgent, features_shown, has_feature, is_noted, offer_meant, where_shown};
 
 use crate::numbers::format_numbered;
-use git_msg::{Caps, Offer};
+use git_msg::{Agent, Caps, Offer};
 
 /// The feature `unborn` of `ls-refs`.
 pub const UNBORN: u32 = 1;
@@ -51,7 +51,18 @@ pub(crate) fn offer_numbered(format: u32, features: u32) -> Option<Offer>
         filter: has(features, FILTER),
         object_info: has(features, OBJECT_INFO),
         server_option: has(features, SERVER_OPTION),
+        agent: Agent::own(),
     })
+}
+
+/// The agent of this name; an empty text is this library's own. None if there is no such name.
+pub(crate) fn agent_named(name: &[u8]) -> Option<Agent>
+    ensures { MatchOption result (MeansNoAgent name.now) (MeansAgent name.now) }
+{
+    match name {
+        [] => Some(Agent::own()),
+        _ => Agent::new(name),
+    }
 }
 
 // Whether a feature is in the sum.

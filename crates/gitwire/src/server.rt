@@ -8,8 +8,9 @@ ghost use Rattle.gitwire.specs.ServerAnswers.{BeginsOver, BeginsWithin, ClosesAn
 
 use crate::answer::{GitwireAnswer, What};
 use crate::handles::{GitwireRepository, GitwireServer, Holds, fill, on};
+use crate::offer::agent_named;
 use crate::request::MOST_LIMIT;
-use git_msg::{Limits, Offer};
+use git_msg::{Agent, Limits, Offer};
 use git_names::Steps;
 use git_pkt::LONGEST_PACKET;
 use git_server::{Pulled, Repo, Server, SharedRepo};
@@ -17,9 +18,9 @@ use std::alloc::Global;
 use std::mem::replace;
 
 /// Makes the handle's server a new one over the repository, which stays with its own handle. It advertises all that the protocol has, keeps
-/// at most `limit` bytes of a request's arguments, and sends the advertisement first if `advertise` is set. What the handle had before is
-/// freed. `Done`; `NoRequest` if there is no repository and `BadValue` if the limit is above 1,073,741,824, and the handle is unchanged; or
-/// `OutOfMemory`, and the handle has none.
+/// at most `limit` bytes of a request's arguments, and sends the advertisement first if `advertise` is set: by this agent, or by this
+/// library's own if the name is empty. What the handle had before is freed. `Done`; `NoRequest` if there is no repository and `BadValue` if
+/// the limit is above 1,073,741,824 or the text is no agent's name, and the handle is unchanged; or `OutOfMemory`, and the handle has none.
 #[unsafe(no_mangle)]
 pub extern "C" fn gitwire_server_init(
     alloc: Global,
@@ -27,11 +28,12 @@ pub extern "C" fn gitwire_server_init(
     repository: &mut GitwireRepository,
     limit: u32,
     advertise: bool,
+    agent: &[u8],
 ) -> u32
-    ensures begins { BeginsOver (repository_in repository.old) limit advertise (server_in server.old) result (server_in server.new) }
+    ensures begins { BeginsOver (repository_in repository.old) limit advertise agent.now (server_in server.old) result (server_in server.new) }
     ensures stays { repository_in repository.new ≡ repository_in repository.old }
 {
-    on!(repository, alloc; begin(alloc, server, repository, limit, advertise), else What::NoRequest.number())
+    on!(repository, alloc; begin(alloc, server, repository, limit, advertise, agent), else What::NoRequest.number())
 }
 
 fn begin(
@@ -40,14 +42,18 @@ fn begin(
     repo: &SharedRepo,
     limit: u32,
     advertise: bool,
+    agent: &[u8],
 ) -> u32
-    ensures { BeginsWithin repo.now limit advertise (server_in server.old) result (server_in server.new) }
+    ensures { BeginsWithin repo.now limit advertise agent.now (server_in server.old) result (server_in server.new) }
 {
     if limit > MOST_LIMIT {
         return What::BadValue.number();
     }
+    let Some(agent) = agent_named(agent) else {
+        return What::BadValue.number();
+    };
     *server = GitwireServer::none(alloc);
-    let Some(made) = make(alloc, repo, Limits { args: limit }, advertise) else {
+    let Some(made) = make(alloc, repo, Limits { args: limit }, advertise, agent) else {
         return What::OutOfMemory.number();
     };
     fill(server, alloc, made).number()
@@ -59,10 +65,14 @@ fn make(
     repo: &SharedRepo,
     limits: Limits,
     advertise: bool,
+    agent: Agent,
 ) -> Option<Box<Server<SharedRepo, Global>, Global>>
-    ensures { IfSome result (λ made. Starts repo.now limits.args advertise made.value) }
+    ensures { IfSome result (λ made. Starts repo.now limits.args advertise agent made.value) }
 {
-    let offer = Offer::everything(repo.format());
+    let offer = Offer {
+        agent,
+        ..Offer::everything(repo.format())
+    };
     let Ok(shared) = repo.share() else {
         return None;
     };

@@ -10,10 +10,10 @@ ghost use Rattle.gitwire.specs.WrittenForC.{Advertises, Makes, MeansBand, MeansE
 use crate::answer::{GitwireAnswer, What};
 use crate::buffers::fill;
 use crate::handles::{GitwireWriter, Holds, on};
-use crate::offer::offer_numbered;
+use crate::offer::{agent_named, offer_numbered};
 use crate::packets::LONGEST_PAYLOAD;
 use crate::written::{Unwritten, hand_out, write_packet};
-use git_msg::put_line;
+use git_msg::{Offer, put_line};
 use git_pkt::{Band, Hold, Kind, Packet, put, put_band};
 use git_server::put_advertisement;
 use std::alloc::Global;
@@ -79,28 +79,39 @@ pub extern "C" fn gitwire_put_error(
     write_packet!(writer, alloc; make_line(&mut writer.hold, b"ERR ", text), buffer)
 }
 
-/// Writes the whole advertisement of a format and the features of a sum, each packet up to its flush, to the front of the buffer: fewer than
-/// 200 bytes. A number of no format and a bit of no feature are BadValue.
+/// Writes the whole advertisement of a format and the features of a sum by this agent, or by this library's own if the name is empty, each
+/// packet up to its flush, to the front of the buffer: fewer than 257 bytes. A number of no format, a bit of no feature and a text that is no
+/// agent's name are BadValue.
 #[unsafe(no_mangle)]
-pub extern "C" fn gitwire_put_advertisement(
+pub extern "C" fn gitwire_put_advertisement_named(
     alloc: Global,
     writer: &mut GitwireWriter,
     format: u32,
     features: u32,
+    agent: &[u8],
     buffer: &mut [u8],
 ) -> GitwireAnswer
-    ensures { WritesIn (writer_in writer.old) (Advertises (offer_meant format features)) buffer.old result buffer.new (writer_in writer.new) }
+    ensures { WritesIn (writer_in writer.old) (Advertises (offer_meant format features) agent.now) buffer.old result buffer.new (writer_in writer.new) }
 {
-    on!(writer, alloc; advertise(&mut writer.hold, format, features, buffer))
+    on!(writer, alloc; advertise(&mut writer.hold, format, features, agent, buffer))
 }
 
-fn advertise(hold: &mut Hold, format: u32, features: u32, buffer: &mut [u8]) -> GitwireAnswer
-    ensures { Advertises (offer_meant format features) buffer.old result buffer.new }
+fn advertise(
+    hold: &mut Hold,
+    format: u32,
+    features: u32,
+    agent: &[u8],
+    buffer: &mut [u8],
+) -> GitwireAnswer
+    ensures { Advertises (offer_meant format features) agent.now buffer.old result buffer.new }
 {
     let Some(offer) = offer_numbered(format, features) else {
         return GitwireAnswer::of(What::BadValue);
     };
-    put_advertisement(hold, &offer);
+    let Some(agent) = agent_named(agent) else {
+        return GitwireAnswer::of(What::BadValue);
+    };
+    put_advertisement(hold, &Offer { agent, ..offer });
     fill(hold.as_slice(), buffer)
 }
 

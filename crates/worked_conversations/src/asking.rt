@@ -5,7 +5,7 @@ use crate::script::{Script, Step};
 use crate::setup::{MANY, limits, offer};
 use crate::texts::append;
 use crate::trouble::Trouble;
-use git_msg::{Argument, Caps, Command, Offer, Request, RequestWriter, read_argument};
+use git_msg::{Agent, Argument, Caps, Command, Offer, Request, RequestWriter, read_argument};
 use git_names::{Format, Steps};
 use git_pkt::{Hold, Kind};
 use std::alloc::Global;
@@ -53,7 +53,7 @@ fn added(request: &mut Request<Global>, format: Format, text: &[u8]) -> Option<R
 
 /// The packets written for a request to a server that advertised this, a line each.
 pub fn written(alloc: Global, request: &Request<Global>, caps: &Caps) -> Result<Vec<u8>, Trouble> {
-    let mut writer = RequestWriter::new(request, caps);
+    let mut writer = RequestWriter::new(request, caps, Agent::own());
     let mut hold = Hold::new();
     let mut lines = Vec::new(alloc);
     for _ in 0..MANY {

@@ -8,7 +8,7 @@ use crate::tables::Table;
 use crate::trouble::Trouble;
 use crate::{checks, clients, hosts, plays, runs};
 use git_client::Ending;
-use git_msg::Command;
+use git_msg::{Agent, Command};
 use git_names::Format;
 use git2show_lib::{Form, Look, View};
 use std::alloc::{AllocError, Global};
@@ -75,6 +75,17 @@ impl<'a> Words<'a> {
         match self.has("stateless") {
             true => Ending::ResponseEnd,
             false => Ending::FlushOnly,
+        }
+    }
+
+    // The agent of the name after `by`, or this library's own.
+    fn agent(self) -> Result<Agent, Trouble> {
+        let Some(name) = self.after("by") else {
+            return Ok(Agent::own());
+        };
+        match Agent::new(name.as_bytes()) {
+            Some(agent) => Ok(agent),
+            None => Err(Trouble::BadCase("no name of an agent after `by`")),
         }
     }
 
@@ -175,6 +186,7 @@ fn server_of<'a>(words: Words<'_>, files: &'a Files) -> Result<Setup<'a>, Troubl
         limit: words.limit()?,
         features: words.features(),
         advertises: words.has("advertises"),
+        agent: words.agent()?,
     })
 }
 
@@ -185,16 +197,18 @@ fn host_of(words: Words<'_>) -> Result<hosts::Setup, Trouble> {
         limit: words.limit()?,
         features: words.features(),
         advertises: words.has("advertises"),
+        agent: words.agent()?,
     })
 }
 
 // The client set up by these words.
-fn client_of<'a>(words: Words<'_>, files: &'a Files) -> clients::Setup<'a> {
-    clients::Setup {
+fn client_of<'a>(words: Words<'_>, files: &'a Files) -> Result<clients::Setup<'a>, Trouble> {
+    Ok(clients::Setup {
+        agent: words.agent()?,
         format: words.format(),
         ending: words.ending(),
         arrived: files.arrived.as_slice(),
-    }
+    })
 }
 
 // The conversation to check, set up by these words.
@@ -247,7 +261,7 @@ fn end_of<'a>(words: Words<'a>, files: &'a Files) -> Result<End<'a>, Trouble> {
         Some("packets") => Ok(End::Packets(words.offset("at")?)),
         Some("view") => Ok(End::View(view_of(words)?)),
         Some("requests") => Ok(End::Requests(format, words.limit()?, words.features())),
-        Some("client") => Ok(End::Client(client_of(words, files))),
+        Some("client") => Ok(End::Client(client_of(words, files)?)),
         Some("check") => Ok(End::Check(check_of(words))),
         Some("server") => Ok(End::Server(server_of(words, files)?)),
         Some("host") => Ok(End::Host(host_of(words)?)),

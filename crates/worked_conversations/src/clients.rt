@@ -9,7 +9,7 @@ use crate::texts::{append, append_str};
 use crate::trouble::Trouble;
 use crate::wordings::{Wording, shown};
 use git_client::{Client, Ending, Event, ReceivedGot, Sent, write_asked, write_event};
-use git_msg::Caps;
+use git_msg::{Agent, Caps};
 use git_names::{Format, Steps};
 use git_pkt::{Fault, Recorded};
 use std::alloc::{AllocError, Global};
@@ -17,6 +17,8 @@ use std::alloc::{AllocError, Global};
 /// How a client is set up.
 #[derive(Clone, Copy)]
 pub struct Setup<'a> {
+    /// The agent that it names.
+    pub agent: Agent,
     pub format: Format,
     pub ending: Ending,
     /// The advertisement that it has received before its case, if the case does not begin with one.
@@ -116,7 +118,7 @@ impl<'a> Talk<'a> {
     fn new(alloc: Global, setup: &Setup<'_>, script: &'a Script) -> Result<Talk<'a>, Trouble> {
         let mut talk = Talk {
             alloc,
-            client: Client::new(setup.format, setup.ending),
+            client: Client::with_agent(setup.agent, Some(setup.format), setup.ending),
             wordings: &[],
             leaves: false,
             shows_sent: !script.asked.is_empty(),

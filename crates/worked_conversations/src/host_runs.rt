@@ -7,7 +7,7 @@ use crate::runs::Run;
 use crate::script::Script;
 use crate::serving::{ending_of, run};
 use crate::sessions::{self, Reads, repository};
-use crate::setup::{TURNS, limits, offer};
+use crate::setup::{TURNS, limits, offer_by};
 use crate::texts::append_str;
 use crate::trouble::Trouble;
 use git_pkt::{Recorded, RunFault};
@@ -53,6 +53,7 @@ fn reported_of<R: Repo + Drop>(
         limit: setup.limit,
         features: setup.features,
         advertises: setup.advertises,
+        agent: setup.agent,
     };
     let mut host = Host::new(alloc, setup, RepoReports::new(alloc, repo));
     run(alloc, &mut host, chunks)
@@ -93,7 +94,7 @@ pub fn served(
 ) -> Result<Run, Trouble> {
     let contents = setup.contents;
     let repo = repository(alloc, contents)?;
-    let offer = offer(repo.format(), setup.features);
+    let offer = offer_by(setup.agent, repo.format(), setup.features);
     let limits = limits(setup.limit);
     let filtered = contents.filtered.map(Cursor::new);
     let store = RepoStore::new(alloc, repo, Cursor::new(contents.pack), filtered);

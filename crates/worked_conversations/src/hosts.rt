@@ -1,10 +1,11 @@
 //! A host's server, and the host, which reports what it is asked of its store.
 
 use crate::serving::{Next, Serves, fault_in};
-use crate::setup::{MANY, limits, offer};
+use crate::setup::{MANY, limits, offer_by};
 use crate::texts::append;
 use crate::trouble::Trouble;
 use git_host::{HostReported, HostServer, HostStep, Need, RequestAtHand};
+use git_msg::Agent;
 use git_names::{Format, Steps};
 use git_pkt::Fault;
 use std::alloc::Global;
@@ -19,6 +20,8 @@ pub struct Setup {
     pub features: bool,
     /// Whether its advertisement comes first.
     pub advertises: bool,
+    /// The agent that it names.
+    pub agent: Agent,
 }
 
 /// What a host does with a request.
@@ -52,7 +55,7 @@ pub struct Host<S> {
 impl<S: Reports> Host<S> {
     /// A server at the beginning of a session, and a host with these reports.
     pub fn new(alloc: Global, setup: Setup, reports: S) -> Host<S> {
-        let offer = offer(setup.format, setup.features);
+        let offer = offer_by(setup.agent, setup.format, setup.features);
         let limits = limits(setup.limit);
         Host {
             server: HostServer::new(alloc, offer, limits, setup.advertises),

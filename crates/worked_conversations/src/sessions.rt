@@ -2,9 +2,10 @@
 
 use crate::runs::Run;
 use crate::serving::{Next, Serves, ending_of, run};
-use crate::setup::{TURNS, limits, offer};
+use crate::setup::{TURNS, limits, offer_by};
 use crate::texts::{append, copied};
 use crate::trouble::Trouble;
+use git_msg::Agent;
 use git_names::Steps;
 use git_pkt::{Fault, Recorded, RunFault};
 use git_repository::{Packs, TextFault, read_repo};
@@ -44,6 +45,8 @@ pub struct Setup<'a> {
     pub features: bool,
     /// Whether its advertisement comes first.
     pub advertises: bool,
+    /// The agent that it names.
+    pub agent: Agent,
 }
 
 /// The repository of a text and its packs.
@@ -64,7 +67,7 @@ pub fn repository(alloc: Global, contents: Contents<'_>) -> Result<ListRepo, Tro
 }
 
 fn new_server<R: Repo>(alloc: Global, repo: R, setup: &Setup<'_>) -> Server<R, Global> {
-    let offer = offer(repo.format(), setup.features);
+    let offer = offer_by(setup.agent, repo.format(), setup.features);
     let limits = limits(setup.limit);
     Server::new(alloc, repo, offer, limits, setup.advertises)
 }

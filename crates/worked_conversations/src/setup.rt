@@ -2,7 +2,7 @@
 
 ghost use Rattle.std.specs.Prelude.{◌≡◌};
 
-use git_msg::{Limits, Offer};
+use git_msg::{Agent, Limits, Offer};
 use git_names::Format;
 
 /// More reads than any run makes.
@@ -27,6 +27,16 @@ pub fn offer(format: Format, features: bool) -> Offer
     Offer {
         server_option: true,
         ..Offer::nothing(format)
+    }
+}
+
+/// The same by this agent.
+pub fn offer_by(agent: Agent, format: Format, features: bool) -> Offer
+    ensures format { result.format ≡ format }
+{
+    Offer {
+        agent,
+        ..offer(format, features)
     }
 }
 

@@ -1,7 +1,7 @@
 -- Calls of a client of any object format, one after the other.
 use Rattle.std.specs.Prelude.{◌≡◌, ℕ, List, [], ◌∷◌}
 use Rattle.git_names.specs.declared.object_format.Format.{Format}
-use Rattle.git_client.specs.Parts.{Terms, terms_of}
+use Rattle.git_client.specs.Parts.{Terms, in_format}
 use Rattle.git_client.specs.Machine.Calls.{Call, Makes}
 use Rattle.git_client.specs.Machine.Choosing.{ChoosesFormat}
 use Rattle.git_client.specs.Machine.Client.{format_of}
@@ -27,5 +27,5 @@ module _ {A : Type 0} where
   -- the terms of the conversation after the calls, with the format that was chosen last
   abbrev pub terms_after : Terms → List (AnyCall A) → Terms
   terms_after t [] = t
-  terms_after t (choose format ∷ calls) = terms_after (terms_of format t.ending) calls
+  terms_after t (choose format ∷ calls) = terms_after (in_format format t) calls
   terms_after t (other call ∷ calls) = terms_after t calls

@@ -101,7 +101,7 @@ module _ {A : Type 0} where
     pub events : HasEvents t h.asked h.used h.events
     pub noted : HasNoted t h.asked h.used (caps_of client)
     -- if no packet is left to send, exactly the written form of the requests was sent, and the flush if the client has left
-    pub given : left_to_send client ≡ [] → h.given ≡ spelled (sent_of t.format (caps_of client) h.asked h.left)
+    pub given : left_to_send client ≡ [] → h.given ≡ spelled (sent_of t (caps_of client) h.asked h.left)
     -- the pack bytes among the events are the pack of the bytes used: at any time, and after a refusal too
     pub pack : HasPack t h.asked h.used (pack_bytes h.events)
     -- if the client can ask, each response is whole
@@ -110,7 +110,7 @@ module _ {A : Type 0} where
     pub turn : (can_ask client ≡ true) ↔ ((fault_of client ≡ None) × (h.left ≡ false) × (turns_of h.events ≡ suc (length h.asked)))
     -- it waits for input only if more is expected after the bytes used, and the whole written form of the requests was sent
     pub expected : wants_input client ≡ true → GoesOn t h.asked h.used h.events
-    pub waits : wants_input client ≡ true → h.given ≡ spelled (sent_of t.format (caps_of client) h.asked h.left)
+    pub waits : wants_input client ≡ true → h.given ≡ spelled (sent_of t (caps_of client) h.asked h.left)
     -- if it neither can ask nor waits for input, it has a packet to send, unless it has failed or left
     pub has_unsent : fault_of client ≡ None → h.left ≡ false → can_ask client ≡ false → wants_input client ≡ false → left_to_send client ≢ []
     -- a client that has refused something did so at the first malformed packet, and any other client has received none

@@ -4,8 +4,9 @@ use Rattle.git_names.specs.declared.object_format.Format.{Format}
 use Rattle.git_names.specs.declared.object_format.Format.TheVariants.{Sha1, Sha256}
 use Rattle.git_msg.specs.Advertisement.{is_spoken}
 use Rattle.git_msg.specs.declared.offers.Caps.{Caps}
-use Rattle.git_client.specs.Parts.{Terms, terms_of}
-use Rattle.git_client.specs.Machine.Client.{History, Converses, format_of, ending_of, is_of_any_format, caps_of, content_last, phase_of, reader_of, request_of}
+use Rattle.git_client.specs.Parts.{Terms, in_format}
+use Rattle.git_client.specs.Machine.Client.{History, Converses, agent_of, format_of, ending_of, is_of_any_format, caps_of, content_last, phase_of}
+use Rattle.git_client.specs.Machine.Client.{reader_of, request_of}
 use Rattle.git_client.specs.declared.phase.Phase.{Phase}
 use Rattle.git_client.specs.declared.phase.Phase.TheVariants.{Receiving, Failed}
 use Rattle.git_client.specs.declared.phase.Expected.TheVariants.{Version, Capabilities}
@@ -44,10 +45,11 @@ module _ {A : Type 0} where
   -- the effect of a call of `choose_format`: the history is one of a client that had this format from its beginning, and all else is unchanged
   pub record ChoosesFormat (old new : Client A) : Type 0 where
     pub format : format_of new ≡ format_next old
-    pub carries : (t : Terms) (h : History) → Converses t h old → Converses (terms_of (format_of new) t.ending) h new
+    pub carries : (t : Terms) (h : History) → Converses t h old → Converses (in_format (format_of new) t) h new
     pub stays : may_choose old ≡ false → new ≡ old
     pub any : is_of_any_format new ≡ is_of_any_format old
     pub ending : ending_of new ≡ ending_of old
+    pub agent : agent_of new ≡ agent_of old
     pub reader : reader_of new ≡ reader_of old
     pub phase : phase_of new ≡ phase_of old
     pub caps : caps_of new ≡ caps_of old

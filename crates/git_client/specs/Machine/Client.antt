@@ -21,6 +21,8 @@ use Rattle.git_msg.specs.Machine.HeldRequest.{asked_of, format_of as request_for
 use Rattle.git_msg.specs.Lines.{end_checks}
 use Rattle.git_msg.specs.Texts.{IsErrorOf}
 use Rattle.git_msg.specs.WrittenRequest.{lines_written}
+use Rattle.git_msg.specs.Agents.{named_if}
+use Rattle.git_msg.specs.declared.agent.Agent.{Agent}
 use Rattle.git_msg.specs.Machine.RequestWriter.{written_of}
 use Rattle.git_msg.specs.declared.offers.Caps.{Caps}
 use Rattle.git_msg.specs.declared.requests.Request.{Request}
@@ -73,8 +75,8 @@ abbrev pub spelled : List Pkt → List ℕ
 spelled = flat_map spelling_of
 
 -- the written form of each request, if this was advertised
-abbrev pub questions_of : Format → Caps → List Asked → List Pkt
-questions_of format caps = flat_map (lines_written caps.agent caps.object_format format)
+abbrev pub questions_of : Terms → Caps → List Asked → List Pkt
+questions_of t caps = flat_map (lines_written (named_if caps.agent t.agent) caps.object_format t.format)
 
 -- the written form of leaving: the flush of a request for nothing
 abbrev pub farewell : Bool → List Pkt
@@ -82,8 +84,8 @@ farewell true = flush ∷ []
 farewell false = []
 
 -- all that a client sends
-abbrev pub sent_of : Format → Caps → List Asked → Bool → List Pkt
-sent_of format caps asked left = questions_of format caps asked ++ farewell left
+abbrev pub sent_of : Terms → Caps → List Asked → Bool → List Pkt
+sent_of t caps asked left = questions_of t caps asked ++ farewell left
 
 -- 1 if a response end is expected, since its flush is counted already; otherwise 0
 abbrev pub awaits_end : Expected → ℕ
@@ -177,6 +179,10 @@ module _ {A : Type 0} where
   abbrev pub ending_of : Client A → Ending
   ending_of client = client.ending
 
+  -- the agent that it names
+  abbrev pub agent_of : Client A → Agent
+  agent_of client = client.agent
+
   -- the number of bytes used
   abbrev pub bytes_used : Client A → ℕ
   bytes_used client = position_of client.reader
@@ -216,6 +222,7 @@ module _ {A : Type 0} where
         format = format;
         of_any_format = of_any_format;
         ending = ending;
+        agent = agent;
         phase = phase;
         caps = caps;
         request = request;
@@ -317,6 +324,7 @@ module _ {A : Type 0} where
     pub clean : List Given
     pub format_is : format_of client ≡ t.format
     pub ending_is : ending_of client ≡ t.ending
+    pub agent_is : agent_of client ≡ t.agent
     pub reads : Reads (reader_of client) 0 h.used given rest
     pub whole : List EventValue
     pub gives : GiveAll t h.asked [] clean whole
@@ -324,7 +332,7 @@ module _ {A : Type 0} where
     pub notes : caps_of client ≡ noted_of (advertisement_of (nearest clean []))
     pub stands : StandsIn (phase_of client) t h.asked clean given rest (length h.used) (question_in (request_of client)) (reader_of client)
     pub left : h.left ≡ has_left client
-    pub spoken : h.given ++ spelled (left_to_send client) ≡ spelled (sent_of t.format (caps_of client) h.asked h.left)
+    pub spoken : h.given ++ spelled (left_to_send client) ≡ spelled (sent_of t (caps_of client) h.asked h.left)
 
   -- whatever the history was, it continues with a request
   abbrev pub AsksOn : Client A → Asked → Client A → Type 0
@@ -357,7 +365,7 @@ module _ {A : Type 0} where
   pub record Asks (old : Client A) (request : Request A) (new : Client A) : Type 0 where
     pub passes : Passes (ask_checks (format_of old) (caps_of old) request)
     pub asks : AsksOn old (asked_of request) new
-    pub has_unsent : left_to_send new ≡ written_of request (caps_of old)
+    pub has_unsent : left_to_send new ≡ written_of request (caps_of old) (agent_of old)
     pub no_more : can_ask new ≡ false
     pub credit : credit_of (reader_of new) ≤ credit_of (reader_of old)
 
@@ -497,6 +505,7 @@ module _ {A : Type 0} where
     pub format : format_of new ≡ format_of old
     pub any : is_of_any_format new ≡ is_of_any_format old
     pub ending : ending_of new ≡ ending_of old
+    pub agent : agent_of new ≡ agent_of old
     pub request : request_of new ≡ request_of old
     pub phase : phase_of new ≡ phase_judged offset judged
     pub caps : caps_of new ≡ caps_of old

@@ -27,7 +27,7 @@ leaves_last ResponseEnd = false
 pub record HasSent (t : Terms) (h : History) : Type 0 where
   pub caps : Caps
   pub noted : HasNoted t h.asked h.used caps
-  pub content : h.given ≡ spelled (sent_of t.format caps h.asked h.left)
+  pub content : h.given ≡ spelled (sent_of t caps h.asked h.left)
 
 -- the received bytes are refused for their first error: truncated only if the input has ended, too long only if one more byte was read
 pub record IsMalformed (t : Terms) (ended : Bool) (unused : List ℕ) (h : History) (fault : Fault) : Type 0 where

@@ -2,35 +2,37 @@
 use Rattle.std.specs.Prelude.{◌≡◌, ℕ, Bool, List, [], ◌∷◌, drop}
 use Rattle.git_names.specs.declared.object_format.Format.{Format}
 use Rattle.git_pkt.specs.Packets.{Pkt, spelling_of}
+use Rattle.git_msg.specs.declared.agent.Agent.{Agent}
 use Rattle.git_msg.specs.declared.offers.Caps.{Caps}
 use Rattle.git_msg.specs.declared.requests.Request.{Request}
 use Rattle.git_msg.specs.declared.writer.Next.{Next}
-use Rattle.git_msg.specs.declared.writer.Next.TheVariants.{CommandLine, Agent, ObjectFormat, Delimiter, Argument, Done}
+use Rattle.git_msg.specs.declared.writer.Next.TheVariants.{CommandLine, AgentLine, ObjectFormat, Delimiter, Argument, Done}
 use Rattle.git_msg.specs.declared.writer.RequestWriter.{RequestWriter}
+use Rattle.git_msg.specs.Agents.{named_if}
 use Rattle.git_msg.specs.Asked.{Asked, arguments_in}
 use Rattle.git_msg.specs.Machine.HeldRequest.{asked_of, format_of}
 use Rattle.git_msg.specs.WrittenRequest.{agent_line, argument_lines, argument_part, format_line, lines_written, where_set}
 
 -- the packets from this one on: of the arguments, those from this index on
-abbrev pub lines_from : Next → Bool → Bool → Format → Asked → List Pkt
-lines_from CommandLine agent object_format format asked = lines_written agent object_format format asked
-lines_from Agent agent object_format format asked = agent_line ∷ where_set object_format (format_line format) (argument_part asked)
-lines_from ObjectFormat agent object_format format asked = format_line format ∷ argument_part asked
-lines_from Delimiter agent object_format format asked = argument_part asked
-lines_from (Argument i) agent object_format format asked = argument_lines (drop i (arguments_in asked))
-lines_from Done agent object_format format asked = []
+abbrev pub lines_from : Next → Agent → Bool → Bool → Format → Asked → List Pkt
+lines_from CommandLine agent named object_format format asked = lines_written (named_if named agent) object_format format asked
+lines_from AgentLine agent named object_format format asked = agent_line agent ∷ where_set object_format (format_line format) (argument_part asked)
+lines_from ObjectFormat agent named object_format format asked = format_line format ∷ argument_part asked
+lines_from Delimiter agent named object_format format asked = argument_part asked
+lines_from (Argument i) agent named object_format format asked = argument_lines (drop i (arguments_in asked))
+lines_from Done agent named object_format format asked = []
 
 -- the packets that a writer has left for a request for this
 abbrev pub lines_left : RequestWriter → Format → Asked → List Pkt
-lines_left w format asked = lines_from w.next w.agent w.object_format format asked
+lines_left w format asked = lines_from w.next w.agent w.names_agent w.object_format format asked
 
 module _ {A : Type 0} where
-  -- the packets of the request
-  abbrev pub written_of : Request A → Caps → List Pkt
-  written_of request caps = lines_written caps.agent caps.object_format (format_of request) (asked_of request)
+  -- the packets of the request: the agent and the object format are named if the server named its own
+  abbrev pub written_of : Request A → Caps → Agent → List Pkt
+  written_of request caps agent = lines_written (named_if caps.agent agent) caps.object_format (format_of request) (asked_of request)
 
   abbrev pub left_at : Next → RequestWriter → Request A → List Pkt
-  left_at next w request = lines_from next w.agent w.object_format (format_of request) (asked_of request)
+  left_at next w request = lines_from next w.agent w.names_agent w.object_format (format_of request) (asked_of request)
 
   -- the packets that are not written yet
   abbrev pub left_to_write : RequestWriter → Request A → List Pkt

@@ -13,7 +13,7 @@ use Rattle.git_server.specs.declared.advertisement.AdvertisementLine.TheVariants
 -- the packet of a line, for this offer
 abbrev pub advertisement_packet : Offer → AdvertisementLine → Pkt
 advertisement_packet offer Version = text_line (codes "version 2")
-advertisement_packet offer Agent = agent_line
+advertisement_packet offer Agent = agent_line offer.agent
 advertisement_packet offer LsRefs = ls_refs_line offer
 advertisement_packet offer Fetch = fetch_line offer
 advertisement_packet offer ServerOption = text_line (codes "server-option")

@@ -40,6 +40,14 @@ returns-in_err-waiting-clause-conversed g c =
     (receiving_ended t _ [] _ refl _ _ _ _ [] _ (begins t _ _ _ _ _ _ _ c.requires.waits begun c.flush.ensures.bytes)
     c.requires.waits c.in_err-waiting.ensures.arrived)
 
+pub returns-in_err-waiting-clause-fault : goal.returns-in_err-waiting-clause-fault
+returns-in_err-waiting-clause-fault g c =
+    shown_at c.from_residual-in_err-waiting.result c.in_err-waiting.field-0.0 _ _
+    (has_failed c.receive_response.new.out || (has_failed c.receive_response.new.pack || g.E.Output.failed c.receive_response.new.progress)) _
+    c.from_residual-in_err-waiting.ensures.1 (λ failed. failed) (λ spent. spent)
+    (sound_first (has_failed c.flush.new.writer) _ (no_failure _ _ _ c.in_ok-flush.ensures.failed c.requires.sound_writer))
+    c.in_err-waiting.ensures.fault
+
 pub loop-request-init : goal.loop-request-init
 loop-request-init g c =
     let arrived = c.in_ok-waiting.ensures.arrived in

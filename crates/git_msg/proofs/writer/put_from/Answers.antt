@@ -9,7 +9,7 @@ use Rattle.git_msg.proofs.writer.put_from.Goals as goal
 pub returns-in-Some : goal.returns-in-Some
 returns-in-Some g c =
     let at = sym c.argument.ensures.value ∙ ap (option_map shown) c.in-Some.is in
-    (λ agent object_format format. record {
+    (λ agent named object_format format. record {
       packet = text_line (written_text (shown c.in-Some.argument));
       first = argument_step (arguments_in (asked_of c.args.request.now)) c.args.i _ at;
       written = c.put_argument.ensures;

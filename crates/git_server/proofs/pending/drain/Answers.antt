@@ -1,12 +1,16 @@
-use Rattle.std.proofs.Common.{rules, true, false}
+use Rattle.std.proofs.Common.{rules, true, false, ◌≡◌, ◌∙◌, ◌||◌, Bool, refl}
 use Rattle.git_server.proofs.Outcomes.{pulls_on}
 use Rattle.git_server.proofs.UnsentLemmas.{on_err_at, all_in_part, unread_end, unread_nothing, unread_packet, unread_waits, writes_packet, writes_end}
 use Rattle.git_server.proofs.pending.drain.Goals as goal
 
+or_none : (b : Bool) → (b || false) ≡ b
+or_none true = refl
+or_none false = refl
+
 pub loop-bytes-preserved : goal.loop-bytes-preserved
 loop-bytes-preserved g c =
     record {
-      sound = search rules;
+      sound = c.in_ok-send-in-Packet.ensures.sends.failed ∙ or_none _ ∙ c.loop-bytes.invariant.sound;
       outcome = pulls_on _ _ _ c.loop-bytes.invariant.outcome c.pull.follows.holds-at-none.outcome;
       writes = writes_packet g.R.Repo.state _ _ _ _ _ _ false _ c.in-Packet.bytes
           c.loop-bytes.invariant.writes c.pull.follows.holds-at-none c.in-Packet.is (search rules);

@@ -7,7 +7,7 @@ returns-in-Ok g c = record {
   asked = record {
     passes = c.in-Ok.ensures;
     asks = asks c.args.self.now _ c.args.request c.new.result (record {
-      terms = record { format = refl; ending = refl; caps = refl };
+      terms = record { format = refl; ending = refl; agent = refl; caps = refl };
       was = ready_phase c.args.self.now.phase c.requires;
       now = refl;
       keeps = refl;

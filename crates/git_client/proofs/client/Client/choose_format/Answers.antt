@@ -11,10 +11,11 @@ returns-then-is_advertising g c =
     let may : may_choose old ≡ true = search (c.if-self.true, advertising) in
     record {
       format = c.format_by-self.ensures ∙ sym (ap (λ b. cond b (format_by (caps_of old)) (format_of old)) may);
-      carries = chooses old _ (record { ending = refl; reader = refl; phase = refl; caps = refl; request = refl }) advertising;
+      carries = chooses old _ (record { ending = refl; agent = refl; reader = refl; phase = refl; caps = refl; request = refl }) advertising;
       stays = λ never. let e = sym may ∙ never in absurd (cc);
       any = refl;
       ending = refl;
+      agent = refl;
       reader = refl;
       phase = refl;
       caps = refl;

@@ -36,8 +36,8 @@ returns-clause-feeds g c =
     let old = c.args.self.now in
     let arrives : phase_of old ≡ Receiving Packfile = c.in-Receiving.is ∙ ap Receiving c.in-Packfile.is in
     let takes =
-    taken_band old _ c.args.chunk.now c.in-Some.fed c.in-Part.band c.in-Part.bytes _ arrives refl refl refl c.in-Some.ensures.feeds c.in-Part.is refl arrives
-    refl in
+    taken_band old _ c.args.chunk.now c.in-Some.fed c.in-Part.band c.in-Part.bytes _ arrives
+    (record { format = refl; any = refl; ending = refl; agent = refl }) c.in-Some.ensures.feeds c.in-Part.is refl arrives refl in
     feeds_again old _ c.args.chunk.now c.arrived.result c.in-Some.fed.used c.arrived.ensures.used
     (answers old _ c.args.chunk.now c.in-Some.fed.used (ap takes_packets arrives) c.in-Some.ensures.used _ c.arrived.result.got takes (λ e. cc) (λ e. cc)
     c.arrived.ensures.got).feeds

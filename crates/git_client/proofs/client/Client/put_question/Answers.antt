@@ -11,7 +11,7 @@ returns-then-not-is_done g c =
     let reader = lent old.reader c.pull.new.hold (omega (arith, c.hold.ensures.fits, ap length c.hold.ensures.value))
     (old.shut (ap fault_in was) (ap takes_packets was)) in
     asks_on old _ c.in-Some.request c.in-Asking.writer c.pull.new.self c.pull.new.hold.items (record {
-      terms = record { format = refl; ending = refl; caps = refl };
+      terms = record { format = refl; ending = refl; agent = refl; caps = refl };
       was = was;
       kept = c.in-Some.is;
       reader = reader.0;
@@ -29,7 +29,7 @@ returns g c =
     let reader = lent old.reader c.pull.new.hold (omega (arith, c.hold.ensures.fits, ap length c.hold.ensures.value))
     (old.shut (ap fault_in was) (ap takes_packets was)) in
     receives_now old _ request c.in-Asking.writer c.pull.new.self c.pull.new.hold.items c.response_expected.result (record {
-      terms = record { format = refl; ending = refl; caps = refl };
+      terms = record { format = refl; ending = refl; agent = refl; caps = refl };
       was = was;
       kept = c.in-Some.is;
       reader = reader.0;

@@ -16,12 +16,14 @@ returns-in-More-clause-takes g c =
     let feeds = c.feed_band-fed.follows.holds-at-none in
     let announces : AnnouncesBand More fed.used c.args.chunk.now reader =
     subst (λ (got : BandGot). AnnouncesBand got fed.used c.args.chunk.now reader) c.in-More.is feeds.announces in
-    taken_all old _ Packfile c.args.chunk.now fed.used (fed_bands old _ c.args.chunk.now fed More c.requires.arrives refl refl refl feeds c.in-More.is)
+    taken_all old _ Packfile c.args.chunk.now fed.used
+    (fed_bands old _ c.args.chunk.now fed More c.requires.arrives (record { format = refl; any = refl; ending = refl; agent = refl }) feeds c.in-More.is)
     announces.0 announces.1 c.requires.arrives refl
 
 pub returns-in-Part-clause-takes : goal.returns-in-Part-clause-takes
 returns-in-Part-clause-takes g c =
-    taken_band c.args.self.now _ c.args.chunk.now c.feed_band-fed.result c.in-Part.band c.in-Part.bytes _ c.requires.arrives refl refl refl
+    taken_band c.args.self.now _ c.args.chunk.now c.feed_band-fed.result c.in-Part.band c.in-Part.bytes _ c.requires.arrives
+    (record { format = refl; any = refl; ending = refl; agent = refl })
     c.feed_band-fed.follows.holds-at-none c.in-Part.is refl c.requires.arrives refl
 
 pub returns-in-Packet-clause-takes : goal.returns-in-Packet-clause-takes
@@ -29,8 +31,8 @@ returns-in-Packet-clause-takes g c =
     settled c.args.self.now _ c.settle-outcome.new.self Packfile c.args.chunk.now c.feed_band-fed.result.used _ c.judge-judged.result
     c.settle-outcome.result
     (fed_band_packet c.args.self.now _ c.args.chunk.now c.feed_band-fed.result c.in-Packet.packet c.in-Packet.offset c.requires.arrives
-    c.feed_band-fed.ensures.used c.feed_band-fed.follows.holds-at-none c.in-Packet.is) c.feed_band-fed.ensures.used c.judge-judged.ensures.turn refl
-    refl refl c.settle-outcome.ensures
+    c.feed_band-fed.ensures.used c.feed_band-fed.follows.holds-at-none c.in-Packet.is) c.feed_band-fed.ensures.used c.judge-judged.ensures.turn
+    (record { format = refl; any = refl; ending = refl; agent = refl }) c.settle-outcome.ensures
 
 pub returns-in-Failed-clause-takes : goal.returns-in-Failed-clause-takes
 returns-in-Failed-clause-takes g c =
@@ -42,5 +44,6 @@ returns-in-Failed-clause-takes g c =
     let announced : reader_fault_of reader ≡ Some fault =
     subst (λ (got : BandGot). AnnouncesBand got fed.used c.args.chunk.now reader) c.in-Failed.is feeds.announces in
     taken_failed old _ Packfile c.args.chunk.now fed.used fault
-    (fed_bands old _ c.args.chunk.now fed (Failed fault) c.requires.arrives refl refl refl feeds c.in-Failed.is) announced
+    (fed_bands old _ c.args.chunk.now fed (Failed fault) c.requires.arrives
+    (record { format = refl; any = refl; ending = refl; agent = refl }) feeds c.in-Failed.is) announced
     (feeds.news fault (old.sound (ap fault_in c.requires.arrives)) c.in-Failed.is) refl refl

@@ -15,7 +15,8 @@ returns-in-More-clause-takes g c =
     let announces : Announces More fed.used c.args.chunk.now reader =
     subst (λ (got : Got). Announces got fed.used c.args.chunk.now reader) c.in-More.is feeds.announces in
     taken_all old _ c.args.expected c.args.chunk.now fed.used
-    (fed_bytes old _ c.args.expected c.args.chunk.now fed More c.requires.arrives c.requires.no_band refl refl refl feeds c.in-More.is) announces.0 announces.1
+    (fed_bytes old _ c.args.expected c.args.chunk.now fed More c.requires.arrives c.requires.no_band
+    (record { format = refl; any = refl; ending = refl; agent = refl }) feeds c.in-More.is) announces.0 announces.1
     c.requires.arrives refl
 
 pub returns-in-Packet-clause-takes : goal.returns-in-Packet-clause-takes
@@ -23,8 +24,8 @@ returns-in-Packet-clause-takes g c =
     settled c.args.self.now _ c.settle-outcome.new.self c.args.expected c.args.chunk.now c.feed-fed.result.used _ c.judge-judged.result
     c.settle-outcome.result
     (fed_packet c.args.self.now _ c.args.expected c.args.chunk.now c.feed-fed.result c.in-Packet.packet c.in-Packet.offset c.requires.arrives
-    c.requires.no_band c.feed-fed.ensures.used c.feed-fed.follows.holds-at-none c.in-Packet.is) c.feed-fed.ensures.used c.judge-judged.ensures.turn refl
-    refl refl c.settle-outcome.ensures
+    c.requires.no_band c.feed-fed.ensures.used c.feed-fed.follows.holds-at-none c.in-Packet.is) c.feed-fed.ensures.used c.judge-judged.ensures.turn
+    (record { format = refl; any = refl; ending = refl; agent = refl }) c.settle-outcome.ensures
 
 pub returns-in-Failed-clause-takes : goal.returns-in-Failed-clause-takes
 returns-in-Failed-clause-takes g c =
@@ -36,5 +37,6 @@ returns-in-Failed-clause-takes g c =
     let announced : reader_fault_of reader ≡ Some fault =
     subst (λ (got : Got). Announces got fed.used c.args.chunk.now reader) c.in-Failed.is feeds.announces in
     taken_failed old _ c.args.expected c.args.chunk.now fed.used fault
-    (fed_bytes old _ c.args.expected c.args.chunk.now fed (Failed fault) c.requires.arrives c.requires.no_band refl refl refl feeds c.in-Failed.is) announced
+    (fed_bytes old _ c.args.expected c.args.chunk.now fed (Failed fault) c.requires.arrives c.requires.no_band
+    (record { format = refl; any = refl; ending = refl; agent = refl }) feeds c.in-Failed.is) announced
     (feeds.news fault (old.sound (ap fault_in c.requires.arrives)) c.in-Failed.is) refl refl

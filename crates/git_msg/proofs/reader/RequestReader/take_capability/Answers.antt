@@ -30,7 +30,11 @@ returns-in_ok-check_end-in-Flush-clause-goes_on g c barred =
     c.in_ok-command-in-Flush.ensures.command c.empty_request-request.ensures c.in_ok-check_end-in-Flush.ensures)
 
 pub returns-in_err-check_end-in-Flush-clause-goes_on : goal.returns-in_err-check_end-in-Flush-clause-goes_on
-returns-in_err-check_end-in-Flush-clause-goes_on g c = search (rules, err_from_is_err_and, flush_refused)
+returns-in_err-check_end-in-Flush-clause-goes_on g c barred =
+    let p = err_from_is_err_and c.from_residual-in_err-check_end-in-Flush.result c.from_residual-in_err-check_end-in-Flush.ensures.1 in
+    rw (p.1, p.2, c.in-Flush.is)
+    (flush_refused barred c.args.self.now c.in_ok-command-in-Flush.command c.empty_request-request.result c.in_err-check_end-in-Flush.field-0.0
+    c.requires (search rules) c.in_ok-command-in-Flush.ensures.command c.empty_request-request.ensures c.in_err-check_end-in-Flush.ensures)
 
 pub returns-in_err-note-in-Payload-clause-own : goal.returns-in_err-note-in-Payload-clause-own
 returns-in_err-note-in-Payload-clause-own g c =
