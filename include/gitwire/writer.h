@@ -38,7 +38,7 @@ gitwire_answer gitwire_put_advertisement(gitwire_writer *writer, gitwire_format 
 	size_t buffer_length);
 
 /* The same by this agent: 1 to 63 printable ASCII characters, none of them a space. An empty text means the library's own, `git2/1`, as
- * gitwire_put_advertisement has it. */
+ * gitwire_put_advertisement has it. BAD_VALUE for another text. */
 GITWIRE_LOOKED_AT
 gitwire_answer gitwire_put_advertisement_named(gitwire_writer *writer, gitwire_format format, uint32_t features, const char *agent,
 	size_t agent_length, uint8_t *buffer, size_t buffer_length);

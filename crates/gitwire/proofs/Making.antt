@@ -18,3 +18,8 @@ pub made_so : {X : Type 0} (Holds : X → Type 0) (answer : What) (number : ℕ)
     → MatchOption new (number ≡ what_number OutOfMemory) (λ x. (number ≡ what_number Done) × Holds x)
 made_so Holds answer number boxed value None by same memory holds = by ∙ ap what_number memory
 made_so Holds answer number boxed value (Some _) by same (done, is) holds = (by ∙ ap what_number done, subst Holds (sym (is ∙ same)) holds)
+
+-- or memory ran out, and nothing is made
+pub none_made : {X : Type 0} (Holds : X → Type 0) (number : ℕ) (new : Option X) → new ≡ None → number ≡ what_number OutOfMemory
+    → MatchOption new (number ≡ what_number OutOfMemory) Holds
+none_made Holds number new none is = subst (λ (o : Option _). MatchOption o (number ≡ what_number OutOfMemory) Holds) (sym none) is

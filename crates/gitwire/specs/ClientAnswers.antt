@@ -41,22 +41,21 @@ abbrev pub choices : List (Option Format)
 choices = Some Sha1 ∷ Some Sha256 ∷ None ∷ []
 
 -- a client by this choice that names this agent, before the first byte; one of any format has SHA-1 until it chooses
-pub record IsNew (choice : Option Format) (ending : Ending) (name : List ℕ) (client : Client Global) : Type 0 where
-  pub agent : Agent
-  pub means : MeansAgent name agent
+pub record IsNew (choice : Option Format) (ending : Ending) (agent : Agent) (client : Client Global) : Type 0 where
   pub converses : Converses (terms_by agent (unwrap_or choice Sha1) ending) nothing_yet client
   pub waits : wants_input client ≡ true
   pub any : is_of_any_format client ≡ is_none choice
 
 -- a new client by this choice, or none if memory ran out
-abbrev pub Begins : Option Format → Ending → List ℕ → ℕ → Option (Client Global) → Type 0
-Begins choice ending name answer new =
-    MatchOption new (answer ≡ what_number What.OutOfMemory) (λ client. (answer ≡ what_number What.Done) × IsNew choice ending name client)
+abbrev pub Begins : Option Format → Ending → Agent → ℕ → Option (Client Global) → Type 0
+Begins choice ending agent answer new =
+    MatchOption new (answer ≡ what_number What.OutOfMemory) (λ client. (answer ≡ what_number What.Done) × IsNew choice ending agent client)
 
 -- the client that two numbers and the name of an agent mean; nothing changes if one of them means nothing
 abbrev pub BeginsBy : Option (Option Format) → Option Ending → List ℕ → Option (Client Global) → ℕ → Option (Client Global) → Type 0
 BeginsBy (Some choice) (Some ending) name old answer new =
-    (MeansNoAgent name × (answer ≡ what_number What.BadValue) × (new ≡ old)) ⊎ Begins choice ending name answer new
+    (MeansNoAgent name × (answer ≡ what_number What.BadValue) × (new ≡ old))
+    ⊎ ((agent : Agent) × MeansAgent name agent × Begins choice ending agent answer new)
 BeginsBy choice ending name old answer new = (answer ≡ what_number What.BadValue) × (new ≡ old)
 
 -- the number of the conversation's format; 0 if it is not known

@@ -29,18 +29,19 @@ pub record Starts (repository : SharedRepo) (limit : ℕ) (advertise : Bool) (ag
       }) [] false [] server
   pub shares : shared_by (repo_of server) ≡ shared_by repository
 
--- such a server by the agent of this name, or none if memory ran out
-abbrev pub Begins : SharedRepo → ℕ → Bool → List ℕ → ℕ → Option (Server SharedRepo Global) → Type 0
-Begins repository limit advertise name answer new =
+-- such a server, or none if memory ran out
+abbrev pub Begins : SharedRepo → ℕ → Bool → Agent → ℕ → Option (Server SharedRepo Global) → Type 0
+Begins repository limit advertise agent answer new =
     MatchOption new (answer ≡ what_number What.OutOfMemory)
-    (λ server. (answer ≡ what_number What.Done) × ((agent : Agent) × MeansAgent name agent × Starts repository limit advertise agent server))
+    (λ server. (answer ≡ what_number What.Done) × Starts repository limit advertise agent server)
 
 -- nothing changes if the limit is above the maximum, or the name is no agent's
 pub record BeginsWithin (repository : SharedRepo) (limit : ℕ) (advertise : Bool) (name : List ℕ) (old : Option (Server SharedRepo Global)) (answer : ℕ)
     (new : Option (Server SharedRepo Global)) : Type 0 where
   pub too_much : most_limit < limit → (answer ≡ what_number What.BadValue) × (new ≡ old)
   pub in_range : limit ≤ most_limit
-      → (MeansNoAgent name × (answer ≡ what_number What.BadValue) × (new ≡ old)) ⊎ Begins repository limit advertise name answer new
+      → (MeansNoAgent name × (answer ≡ what_number What.BadValue) × (new ≡ old))
+      ⊎ ((agent : Agent) × MeansAgent name agent × Begins repository limit advertise agent answer new)
 
 -- a server over the repository of a handle; nothing changes if that has none
 abbrev pub BeginsOver : Option SharedRepo → ℕ → Bool → List ℕ → Option (Server SharedRepo Global) → ℕ → Option (Server SharedRepo Global) → Type 0
