@@ -17,7 +17,7 @@ _git2show() {
             mapfile -t COMPREPLY < <(compgen -f -- "$word")
             return
             ;;
-        --limit | --cut | --width | --from)
+        --limit | --cut | --width | --from | --server-option)
             return
             ;;
         *)
@@ -25,7 +25,7 @@ _git2show() {
             show) options='--pretty --json --plain --width --no-pack --from --only --trace --help' ;;
             check) options='--explain --pretty --width --no-pack --format --stateless --help' ;;
             serve) options='--repo --pack --filtered --limit --stateless-rpc --http-backend-info-refs --advertise-refs --help' ;;
-            fetch) options='--script --pack --transcript --progress --format --stateless --help' ;;
+            fetch) options='--script --pack --transcript --progress --server-option --format --stateless --help' ;;
             play) options='--repo --pack --filtered --script --cut --stateless --help' ;;
             help) options='show check serve fetch play' ;;
             esac

@@ -44,6 +44,7 @@ for command in fetch play
 end
 __git2show_option fetch -l transcript -r -F -d 'Where the transcript goes'
 __git2show_option fetch -l progress -d 'Show the progress'
+__git2show_option fetch -l server-option -x -d 'Send this with each request'
 __git2show_option play -l cut -x -d 'Bytes of a chunk'
 __git2show_option serve -a '(__fish_complete_directories)'
 __git2show_option help -a 'show check serve fetch play'

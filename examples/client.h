@@ -27,9 +27,9 @@
 #endif
 
 /*
- * The maximum number of bytes in the texts of a request's argument lines. For a clone Git sends a line for each reference, `want-ref` and
- * its name, or `want` and its object. So 300,000 references fit with names of 74 bytes on average, or with an object each, in either
- * format. A request with more is refused.
+ * The maximum number of bytes in the texts of a request's argument lines and server options. For a clone Git sends a line for each
+ * reference, `want-ref` and its name, or `want` and its object. So 300,000 references fit with names of 74 bytes on average, or with an
+ * object each, in either format. A request with more is refused.
  *
  * This limits the memory that a client can take with its slot until it is answered: 25 MB, and 11 for 300,000 names of 22 bytes. In
  * addition a slot takes 200 KB, and before a request comes only these. So MOST_CLIENTS slots can take 3.3 GB: if that is too much, have

@@ -25,7 +25,8 @@ COMMANDS = {1: "ls-refs", 2: "fetch", 3: "object-info"}
 FEATURES_ALL = 127
 PART_ID, PART_NAME, PART_TEXT, PART_PEELED = range(1, 5)
 DEFAULT_LIMIT = 16777216
-PAYLOAD_SIZE, PACKET_SIZE, ESCAPE_SIZE = 65516, 65520, 4
+PAYLOAD_SIZE, PACKET_SIZE, SERVER_OPTION_SIZE, ESCAPE_SIZE = 65516, 65520, 65502, 4
+LIST_SERVER_OPTIONS = 9
 CHUNK = 65536
 EVENTS = 256
 
@@ -69,6 +70,8 @@ def load_library():
         "request_reader_feed": (Answer, [handle, handle, *text]),
         "request_reader_free": (None, [handle]),
         "request_command": (c_uint32, [handle]),
+        "request_add_server_option": (Answer, [handle, *text]),
+        "request_item": (Answer, [handle, c_uint32, c_size_t, *text]),
         "request_empty": (c_uint32, [place]),
         "request_free": (None, [handle]),
         "client_new_named": (c_uint32, [place, c_uint32, c_uint32, *text]),
@@ -146,6 +149,17 @@ class Request:
     def command(self):
         """The name of its command."""
         return COMMANDS[LIBRARY.gitwire_request_command(self.handle)]
+
+    def server_options(self):
+        """Its server options, in order."""
+        options, buffer = [], create_string_buffer(SERVER_OPTION_SIZE)
+        while (answer := LIBRARY.gitwire_request_item(self.handle, LIST_SERVER_OPTIONS, len(options), buffer, len(buffer))).kind == DONE:
+            options.append(buffer[: answer.length])
+        return options
+
+    def add_server_option(self, option):
+        """Adds a server option after those that it has."""
+        judged(LIBRARY.gitwire_request_add_server_option(self.handle, option, len(option)))
 
 
 def requests_of(stream, format_=SHA1):

@@ -173,6 +173,27 @@ case_our_client_shows_no_control_byte_of_the_progress() {
     shown '\xc2' '\x9b31m\n' 'remote: \xc2?31m\n'
 }
 
+# Git reports each packet that it receives.
+case_our_client_sends_server_options() {
+    printf '%s\n' ls-refs 'ref-prefix HEAD' '' ls-refs > script
+    rm -f asked.trace
+    GIT_TRACE_PACKET=$PWD/asked.trace ask history-sha1 --server-option lang=en --server-option=
+    heard 'request ls-refs' 'end 0 0'
+    expect_same 'the server options' <(printf '%s\n' server-option={lang=en,} server-option={lang=en,}) \
+        <(grep -a -o 'upload-pack< server-option=.*' asked.trace | sed 's/.*< //')
+}
+
+# Nothing is sent if a server option is none, or the server does not advertise that it takes one.
+case_our_client_refuses_a_server_option() {
+    echo ls-refs > script
+    run git2show fetch --script script --pack pack --server-option $'a\nb' < /dev/null
+    expect 1 /dev/null <(echo 'git2show: BadLine at 0')
+    on_terminal "git2show fetch --script script --pack pack --server-option \$'a\\nb'"
+    { packet 'version 2'; packet ls-refs; printf 0000; } > said
+    run git2show fetch --script script --pack pack --transcript written --server-option a < said
+    expect 1 /dev/null <(echo 'git2show: NotAdvertised at 30')
+}
+
 case_our_client_fetches_over_a_connection_for_each_request() {
     local id
     id=$(git -C history-sha1 rev-parse HEAD)

@@ -92,13 +92,13 @@ case_a_body_that_is_not_compressed_as_it_states_is_refused_over_http() {
 case_a_body_that_grows_without_end_is_cut_over_http() {
     {
         packet command=ls-refs
-        packet "server-option=$(printf '%065000d' 0)" > line
+        packet "agent=$(printf '%065000d' 0)" > line
         for _ in {1..1200}; do cat line; done
         printf 0000
     } | gzip -n > body
     [ "$(wc -c < body)" -lt 1000000 ] || differs 'a body that is not small'
     ask_backend POST /wanted/git-upload-pack HTTP_GIT_PROTOCOL=version=2 HTTP_CONTENT_ENCODING=gzip < body
-    expect 0 <(answer_head result; packet 'ERR Truncated at 67099628') <(fault 'Truncated at 67099628')
+    expect 0 <(answer_head result; packet 'ERR Truncated at 67091372') <(fault 'Truncated at 67091372')
 }
 
 # An answer is passed on as git2show writes it. Here git2show writes the rest only after the first part has arrived.

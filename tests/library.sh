@@ -15,6 +15,7 @@ write_examples() {
     done
     compile frugal_daemon "$top/examples/daemon.c" -DMOST_KEPT=200
     compile library_calls "$top/tests/library_calls.c"
+    compile library_requests "$top/tests/library_requests.c"
     compile library_arrays "$top/tests/library_arrays.c"
     compile library_writers "$top/tests/library_writers.c"
     compile library_host "$top/tests/library_host.c"
@@ -164,7 +165,7 @@ case_programs_take_the_shared_library() {
     grep -q -F "libgitwire.so.1 => $installed/lib/libgitwire.so.1 " out || differs 'a program without the shared library' out
     readelf -W -V bin/list-shared > parts
     grep -q 'Name: GITWIRE_0\.3 ' parts || differs 'a program without the version of its calls' parts
-    for name in library_calls library_writers library_host; do
+    for name in library_calls library_requests library_writers library_host; do
         gcc -O2 -o "bin/$name-shared" "$top/tests/$name.c" "${flags[@]}"
         shared "$name-shared"
         expect 0 /dev/null /dev/null
@@ -339,7 +340,7 @@ case_examples_of_the_manual_pages_compile() {
 
 case_library_calls_tell_what_the_header_says() {
     local name
-    for name in library_calls library_writers library_host; do
+    for name in library_calls library_requests library_writers library_host; do
         run "$name-watched"
         expect 0 /dev/null /dev/null
         under_valgrind "bin/$name"

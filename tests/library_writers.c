@@ -1,6 +1,6 @@
 /*
- * Calls each function of the library that writes a packet or a text, the reader of greetings, and the calls that take the name of an agent, as
- * library_calls.c does with the others.
+ * Calls each function of the library that writes a packet or a text, the reader of greetings, and the calls that take the name of an agent or a
+ * server option, as library_calls.c does with the others.
  */
 #include "library_calls.h"
 
@@ -306,17 +306,25 @@ static void try_agents_of_servers(void)
 	gitwire_host_free(host);
 }
 
-/* Has the client ask for the references of a server with these capabilities. */
-static gitwire_client *client_after(gitwire_format format, const char *agent, const char *capabilities)
+/* A client that has received this advertisement. */
+static gitwire_client *client_of(gitwire_format format, const char *agent, const char *advertisement)
 {
 	static uint8_t parts[GITWIRE_PAYLOAD_SIZE];
 	gitwire_client *client = NULL;
-	gitwire_request *request = NULL;
 	size_t used = 0;
 
 	EXPECT(gitwire_client_new_named(&client, format, GITWIRE_ENDS_BY_FLUSH, TEXT(agent)) == GITWIRE_DONE);
-	while (used < strlen(capabilities))
-		used += gitwire_client_feed(client, BYTES(capabilities + used), parts, sizeof parts).used;
+	while (used < strlen(advertisement))
+		used += gitwire_client_feed(client, BYTES(advertisement + used), parts, sizeof parts).used;
+	return client;
+}
+
+/* Has the client ask for the references of a server with this advertisement. */
+static gitwire_client *client_after(gitwire_format format, const char *agent, const char *advertisement)
+{
+	gitwire_client *client = client_of(format, agent, advertisement);
+	gitwire_request *request = NULL;
+
 	EXPECT(gitwire_request_new(&request, GITWIRE_LS_REFS, GITWIRE_SHA1, 0) == GITWIRE_DONE);
 	EXPECT(gitwire_client_ask(client, request).kind == GITWIRE_DONE);
 	gitwire_request_free(request);
@@ -345,6 +353,171 @@ static void try_agents_of_clients(void)
 	gitwire_client_free(client);
 }
 
+static char longest_option[GITWIRE_SERVER_OPTION_SIZE + 1];
+static uint8_t asked[2 * GITWIRE_PACKET_SIZE];
+
+static gitwire_request *new_request(gitwire_command command, uint32_t limit)
+{
+	gitwire_request *request = NULL;
+
+	EXPECT(gitwire_request_new(&request, command, GITWIRE_SHA1, limit) == GITWIRE_DONE);
+	return request;
+}
+
+static bool adds_option(gitwire_request *request, const char *option, size_t length)
+{
+	return tells(gitwire_request_add_server_option(request, option, length), GITWIRE_DONE, 0, 0, 0);
+}
+
+static bool refuses_option(gitwire_request *request, const char *option, size_t length, gitwire_fault fault)
+{
+	return tells_fault(gitwire_request_add_server_option(request, option, length), fault, 0, 0);
+}
+
+static bool has_option(gitwire_request *request, size_t index, const char *option)
+{
+	return wrote(gitwire_request_item(request, GITWIRE_LIST_SERVER_OPTIONS, index, CHARACTERS), option);
+}
+
+static bool has_no_option(gitwire_request *request, size_t index)
+{
+	return tells(gitwire_request_item(request, GITWIRE_LIST_SERVER_OPTIONS, index, CHARACTERS), GITWIRE_NOTHING, 0, 0, 0);
+}
+
+/* Has a client ask the request, collects its packets, and returns how many bytes they have. */
+static size_t ask(gitwire_request *request, const char *advertisement)
+{
+	gitwire_client *client = client_of(GITWIRE_SHA1, "", advertisement);
+	gitwire_answer answer;
+	size_t length = 0;
+
+	EXPECT(tells(gitwire_client_ask(client, request), GITWIRE_DONE, 0, 0, 0));
+	while ((answer = gitwire_client_pull(client, BUFFER)).kind == GITWIRE_PACKET && length + answer.length <= sizeof asked) {
+		memcpy(asked + length, buffer, answer.length);
+		length += answer.length;
+	}
+	EXPECT(answer.kind == GITWIRE_NEED_INPUT);
+	memset(buffer, '#', sizeof buffer);
+	gitwire_client_free(client);
+	return length;
+}
+
+/* A host's server that was asked what the client asked. */
+static gitwire_host *host_asked(size_t length)
+{
+	gitwire_host *host = NULL;
+
+	EXPECT(gitwire_host_new(&host, GITWIRE_SHA1, GITWIRE_FEATURE_SERVER_OPTION, GITWIRE_DEFAULT_LIMIT, false) == GITWIRE_DONE);
+	EXPECT(tells(gitwire_host_feed(host, asked, length), GITWIRE_MORE, length, 0, 0));
+	EXPECT(tells(gitwire_host_pull(host, BUFFER), GITWIRE_ASKED, 0, GITWIRE_LS_REFS, 0));
+	return host;
+}
+
+#define NO_OPTIONS "000eversion 2\n" "0010agent=other\n" "000cls-refs\n" "0017object-format=sha1\n" "0000"
+#define OPTIONS "000eversion 2\n" "0010agent=other\n" "000cls-refs\n" "0012server-option\n" "0017object-format=sha1\n" "0000"
+
+/* Options are written behind the agent, each without LF, and a host has them in their order. */
+static void try_options_of_a_client(void)
+{
+	static const char written[] = "0014command=ls-refs\n" "0011agent=git2/1\n" "0017server-option=first" "0012server-option="
+		"0017object-format=sha1\n" "0001" "0009peel\n" "0000";
+	gitwire_request *request = new_request(GITWIRE_LS_REFS, GITWIRE_DEFAULT_LIMIT);
+	gitwire_client *client = client_of(GITWIRE_SHA1, "", NO_OPTIONS);
+	gitwire_host *host = NULL;
+	size_t length;
+
+	EXPECT(tells(gitwire_request_add(request, TEXT("peel")), GITWIRE_DONE, 0, 0, 0));
+	EXPECT(adds_option(request, TEXT("first")) && adds_option(request, NULL, 0));
+	EXPECT(tells_fault(gitwire_client_ask(client, request), GITWIRE_FAULT_NOT_ADVERTISED, 0, strlen(NO_OPTIONS)));
+	gitwire_client_free(client);
+	EXPECT(has_option(request, 0, "first") && has_option(request, 1, "") && has_no_option(request, 2));
+	length = ask(request, OPTIONS);
+	EXPECT(length == strlen(written) && memcmp(asked, written, strlen(written)) == 0);
+	EXPECT(gitwire_request_add_server_option(request, TEXT("late")).kind == GITWIRE_NO_REQUEST);
+	gitwire_request_free(request);
+
+	host = host_asked(length);
+	for (int times = 0; times < 2; times++) { /* when it is asked, and when it is answered */
+		EXPECT(wrote(gitwire_host_item(host, GITWIRE_LIST_SERVER_OPTIONS, 0, CHARACTERS), "first"));
+		EXPECT(wrote(gitwire_host_item(host, GITWIRE_LIST_SERVER_OPTIONS, 1, CHARACTERS), ""));
+		EXPECT(tells(gitwire_host_item(host, GITWIRE_LIST_SERVER_OPTIONS, 2, CHARACTERS), GITWIRE_NOTHING, 0, 0, 0));
+		EXPECT(tells(gitwire_host_item(host, GITWIRE_LIST_SERVER_OPTIONS, 0, (char *)buffer, 4), GITWIRE_BUFFER_TOO_SMALL, 0, 0, 0));
+		EXPECT(gitwire_host_flag(host, GITWIRE_FLAG_PEEL) && gitwire_host_accept(host) == (times == 0 ? GITWIRE_DONE : GITWIRE_NOT_NOW));
+	}
+	gitwire_host_free(host);
+}
+
+/* The longest option takes a whole packet, and is read back. */
+static void try_the_longest_option(void)
+{
+	static const char before[] = "0014command=ls-refs\n" "0011agent=git2/1\n" "fff0server-option=";
+	static const char after[] = "0017object-format=sha1\n" "0001" "0000";
+	const size_t length = strlen(before) + GITWIRE_SERVER_OPTION_SIZE + strlen(after);
+	gitwire_request *request = new_request(GITWIRE_LS_REFS, GITWIRE_DEFAULT_LIMIT);
+	gitwire_host *host = NULL;
+
+	memset(longest_option, 'a', sizeof longest_option);
+	EXPECT(refuses_option(request, longest_option, sizeof longest_option, GITWIRE_FAULT_BAD_LINE));
+	EXPECT(has_no_option(request, 0));
+	EXPECT(adds_option(request, longest_option, GITWIRE_SERVER_OPTION_SIZE));
+	EXPECT(ask(request, OPTIONS) == length && memcmp(asked, before, strlen(before)) == 0);
+	EXPECT(memcmp(asked + strlen(before), longest_option, GITWIRE_SERVER_OPTION_SIZE) == 0);
+	EXPECT(memcmp(asked + strlen(before) + GITWIRE_SERVER_OPTION_SIZE, after, strlen(after)) == 0);
+	gitwire_request_free(request);
+
+	host = host_asked(length);
+	EXPECT(tells(gitwire_host_item(host, GITWIRE_LIST_SERVER_OPTIONS, 0, (char *)buffer, GITWIRE_SERVER_OPTION_SIZE), GITWIRE_DONE, 0, 0,
+		GITWIRE_SERVER_OPTION_SIZE));
+	EXPECT(memcmp(buffer, longest_option, GITWIRE_SERVER_OPTION_SIZE) == 0 && buffer[GITWIRE_SERVER_OPTION_SIZE] == '#');
+	memset(buffer, '#', sizeof buffer);
+	EXPECT(tells(gitwire_host_item(host, GITWIRE_LIST_SERVER_OPTIONS, 1, CHARACTERS), GITWIRE_NOTHING, 0, 0, 0));
+	gitwire_host_free(host);
+}
+
+/* What is no option is refused first, and then what is above the limit, which the words before an option count to. */
+static void try_options_refused(void)
+{
+	static const gitwire_command commands[] = { GITWIRE_LS_REFS, GITWIRE_FETCH, GITWIRE_OBJECT_INFO };
+
+	for (size_t i = 0; i < sizeof commands / sizeof *commands; i++) {
+		gitwire_request *request = new_request(commands[i], 33);
+
+		EXPECT(refuses_option(request, PARTS("a\nb"), GITWIRE_FAULT_BAD_LINE) && refuses_option(request, PARTS("\n"), GITWIRE_FAULT_BAD_LINE));
+		EXPECT(refuses_option(request, PARTS("a\0b"), GITWIRE_FAULT_BAD_LINE));
+		EXPECT(refuses_option(request, TEXT("of twenty characters"), GITWIRE_FAULT_TOO_MUCH_KEPT) && has_no_option(request, 0));
+		EXPECT(adds_option(request, TEXT("a=b c")) && refuses_option(request, TEXT("a"), GITWIRE_FAULT_TOO_MUCH_KEPT));
+		EXPECT(refuses_option(request, PARTS("\n"), GITWIRE_FAULT_BAD_LINE) && adds_option(request, NULL, 0));
+		EXPECT(refuses_option(request, NULL, 0, GITWIRE_FAULT_TOO_MUCH_KEPT));
+		EXPECT(has_option(request, 0, "a=b c") && has_option(request, 1, "") && has_no_option(request, 2));
+		EXPECT(tells_fault(gitwire_request_add(request, TEXT("server-option=a")), GITWIRE_FAULT_UNKNOWN_ARGUMENT, 0, 0));
+		gitwire_request_free(request);
+	}
+}
+
+/* A reader takes an option with LF behind it or without, none from a line without `=`, and at most its limit. */
+static void try_options_read(void)
+{
+	static const char taken[] = "0012server-option\n" "0012command=fetch\n" "0018server-option=first\n" "0012server-option="
+		"0001" "0032want " ONE "\n" "0000";
+	static const char refused[] = "0014command=ls-refs\n" "0017server-option=first" "0013server-option=a" "0000";
+	gitwire_request_reader *reader = NULL;
+	gitwire_request *request = NULL;
+
+	EXPECT(gitwire_request_empty(&request) == GITWIRE_DONE);
+	EXPECT(gitwire_request_reader_new(&reader, GITWIRE_SHA1, GITWIRE_FEATURE_SERVER_OPTION, 78) == GITWIRE_DONE);
+	EXPECT(tells(gitwire_request_reader_feed(reader, request, BYTES(taken)), GITWIRE_REQUEST, strlen(taken), 0, 0));
+	EXPECT(gitwire_request_command(request) == GITWIRE_FETCH && has_option(request, 0, "first") && has_option(request, 1, ""));
+	EXPECT(has_no_option(request, 2));
+	gitwire_request_reader_free(reader);
+	EXPECT(gitwire_request_reader_new(&reader, GITWIRE_SHA1, GITWIRE_FEATURE_SERVER_OPTION, 33) == GITWIRE_DONE);
+	EXPECT(tells_fault(gitwire_request_reader_feed(reader, request, BYTES(refused)), GITWIRE_FAULT_TOO_MUCH_KEPT, 62, 43));
+	gitwire_request_reader_free(reader);
+	EXPECT(gitwire_request_reader_new(&reader, GITWIRE_SHA1, 0, 33) == GITWIRE_DONE);
+	EXPECT(tells_fault(gitwire_request_reader_feed(reader, request, BYTES(refused)), GITWIRE_FAULT_NOT_ADVERTISED, 43, 20));
+	gitwire_request_reader_free(reader);
+	gitwire_request_free(request);
+}
+
 static void *try_all(void *nothing)
 {
 	memset(buffer, '#', sizeof buffer);
@@ -361,6 +534,10 @@ static void *try_all(void *nothing)
 	try_agents_of_writers();
 	try_agents_of_servers();
 	try_agents_of_clients();
+	try_options_of_a_client();
+	try_the_longest_option();
+	try_options_refused();
+	try_options_read();
 	gitwire_writer_free(writer);
 	gitwire_writer_free(NULL);
 	return nothing;

@@ -99,8 +99,8 @@ static void expect_none_asked(long before, const char *what)
 #define BYTES(text) (const uint8_t *)(text), strlen(text)
 #define ONE "1111111111111111111111111111111111111111"
 #define TWO "2222222222222222222222222222222222222222"
-#define FETCH "0012command=fetch\n" "0001" "0032want " ONE "\n" "0032have " ONE "\n" "0016deepen-not refs/a\n" \
-	"0015filter blob:none\n" "0000"
+#define FETCH "0012command=fetch\n" "0017server-option=first" "0012server-option=" "0001" "0032want " ONE "\n" "0032have " ONE "\n" \
+	"0016deepen-not refs/a\n" "0015filter blob:none\n" "0000"
 #define LS_REFS "0014command=ls-refs\n" "0001" "001bref-prefix refs/heads/\n" "0017ref-prefix refs/a/\n" "0000"
 #define REFUSED LS_REFS "0012command=fetch\n" "0001" "0032want " ONE "\n" "0016deepen-not refs/a\n" "0032want " TWO "\n"
 #define OFFERED "000eversion 2\n" "0012fetch=shallow\n" "0000"
@@ -162,8 +162,8 @@ static void hear_request(gitwire_request_reader *reader, gitwire_request *reques
 
 static bool make_reader(gitwire_request_reader **reader)
 {
-	return IS_MADE(*reader, gitwire_request_reader_new(reader, GITWIRE_SHA1, GITWIRE_FEATURE_SHALLOW | GITWIRE_FEATURE_FILTER,
-		GITWIRE_DEFAULT_LIMIT), "a reader of requests");
+	return IS_MADE(*reader, gitwire_request_reader_new(reader, GITWIRE_SHA1,
+		GITWIRE_FEATURE_SHALLOW | GITWIRE_FEATURE_FILTER | GITWIRE_FEATURE_SERVER_OPTION, GITWIRE_DEFAULT_LIMIT), "a reader of requests");
 }
 
 static void run_request_reader(void)
@@ -179,13 +179,17 @@ static void run_request_reader(void)
 	gitwire_request_free(request);
 }
 
-static bool add(gitwire_request *request, const char *line)
+/* Whether an argument was added; or it is refused, for lack of memory alone. */
+static bool is_added(gitwire_answer answer)
 {
-	gitwire_answer answer = gitwire_request_add(request, TEXT(line));
-
 	expect(answer.kind == GITWIRE_DONE
 		|| (answer.kind == GITWIRE_FAILED && answer.fault == GITWIRE_FAULT_OUT_OF_MEMORY && refused > 0), "an argument");
 	return answer.kind == GITWIRE_DONE;
+}
+
+static bool add(gitwire_request *request, const char *line)
+{
+	return is_added(gitwire_request_add(request, TEXT(line)));
 }
 
 /* A flag or a number, which takes no memory. */
@@ -202,7 +206,7 @@ static void add_without_memory(gitwire_request *request, const char *line)
 static void run_request(void)
 {
 	gitwire_request *request = NULL;
-	bool first, second, third;
+	bool first, second, third, fourth;
 
 	if (IS_MADE(request, gitwire_request_new(&request, GITWIRE_FETCH, GITWIRE_SHA1, 1000), "a request")) {
 		first = add(request, "want " ONE);
@@ -215,6 +219,9 @@ static void run_request(void)
 		third = add(request, "filter blob:none");
 		expect(gitwire_request_item(request, GITWIRE_LIST_FILTERS, 0, (char *)buffer, sizeof buffer).kind
 			== (third ? GITWIRE_DONE : GITWIRE_NOTHING), "a filter");
+		fourth = is_added(gitwire_request_add_server_option(request, TEXT("first")));
+		expect(gitwire_request_item(request, GITWIRE_LIST_SERVER_OPTIONS, 0, (char *)buffer, sizeof buffer).kind
+			== (fourth ? GITWIRE_DONE : GITWIRE_NOTHING), "a server option");
 	}
 	gitwire_request_free(request);
 }

@@ -50,7 +50,8 @@ const char *gitwire_version(void);
 
 /* Sizes of buffers that suffice for smaller things. */
 #define GITWIRE_OBJECT_NAME_SIZE 64         /* the digits of an object name of either format */
-#define GITWIRE_REFERENCE_NAME_SIZE 32000   /* a reference name, and each other item of a request's lists */
+#define GITWIRE_REFERENCE_NAME_SIZE 32000   /* a reference name, and each other item of a request's lists but a server option */
+#define GITWIRE_SERVER_OPTION_SIZE 65502    /* a server option */
 #define GITWIRE_FAULT_TEXT_SIZE 64          /* the text that gitwire_fault_text writes */
 #define GITWIRE_KIND_NAME_SIZE 32           /* the name that gitwire_kind_name writes */
 #define GITWIRE_ESCAPE_SIZE 4               /* the escape that gitwire_escape writes for one byte */
@@ -60,7 +61,7 @@ const char *gitwire_version(void);
 /* A buffer for the texts of all events of a chunk of this length, in gitwire_client_events. */
 #define GITWIRE_EVENTS_SIZE(chunk_length) (2 * GITWIRE_PAYLOAD_SIZE + (chunk_length))
 
-/* How many bytes the texts of a request's argument lines may have together: the default limit, and the maximum one. */
+/* How many bytes the texts of a request's argument lines and server options may have together: the default limit, and the maximum one. */
 #define GITWIRE_DEFAULT_LIMIT 16777216
 #define GITWIRE_MAXIMUM_LIMIT 1073741824
 

@@ -34,8 +34,8 @@ extern "C" {
 typedef struct gitwire_host gitwire_host;
 
 /* A host's server at the beginning of a session, with objects of this format, which advertises these features (a sum of GITWIRE_FEATURE_*, or 0).
- * It sends its advertisement first if `advertise` is set. `limit` is how many bytes the texts of a request's argument lines may have together.
- * DONE. BAD_VALUE for a format or a feature that does not exist, and for a limit above GITWIRE_MAXIMUM_LIMIT. OUT_OF_MEMORY. */
+ * It sends its advertisement first if `advertise` is set. `limit` is how many bytes the texts of a request's argument lines and server options
+ * may have together. DONE. BAD_VALUE for a format or a feature that does not exist, and for a limit above GITWIRE_MAXIMUM_LIMIT. OUT_OF_MEMORY. */
 GITWIRE_LOOKED_AT
 gitwire_result gitwire_host_new(gitwire_host **host, gitwire_format format, uint32_t features, uint32_t limit, bool advertise);
 
@@ -62,7 +62,8 @@ GITWIRE_LOOKED_AT
 gitwire_answer gitwire_host_pull(gitwire_host *host, uint8_t *buffer, size_t buffer_length);
 
 /* The request that is ASKED or answered, by calls as gitwire_request_command, _flag, _number and _item: NOTHING, 0 or false, if there is none. Once
- * an `ls-refs` request is accepted, its prefixes are in the order of their bytes, without those that begin with another. */
+ * an `ls-refs` request is accepted, its prefixes are in the order of their bytes, without those that begin with another. The library answers a
+ * request as it would without its server options: whether one is known and allowed, and what it changes, is the host's to decide while ASKED. */
 GITWIRE_LOOKED_AT
 gitwire_command gitwire_host_command(gitwire_host *host);
 GITWIRE_LOOKED_AT

@@ -20,13 +20,17 @@ typedef enum gitwire_command { GITWIRE_LS_REFS = 1, GITWIRE_FETCH = 2, GITWIRE_O
  * A request: what a reader of requests returns, or what a client is to ask. A new request has no arguments. One that a
  * reader returned has the reader's limit. Each list keeps the order of its lines, and repeats.
  *
+ * Beside the arguments of its command a request of any command may have server options, texts whose meaning the server knows, as
+ * `git fetch --server-option` sends them. A server option comes as a line `server-option=` and the text, which counts to the limit as an
+ * argument's line does.
+ *
  * A request handle can be without a request: as gitwire_request_empty makes it, and after a client took its request
  * (gitwire_client_ask). Each call below returns NO_REQUEST then, or 0 or false where it returns no code.
  */
 
 /*
- * A request without arguments. `limit` is how many bytes the texts of its argument lines may have together. DONE. BAD_VALUE for a
- * command or a format that does not exist, and for a limit above GITWIRE_MAXIMUM_LIMIT. OUT_OF_MEMORY.
+ * A request without arguments. `limit` is how many bytes the texts of its argument lines and server options may have together. DONE.
+ * BAD_VALUE for a command or a format that does not exist, and for a limit above GITWIRE_MAXIMUM_LIMIT. OUT_OF_MEMORY.
  */
 GITWIRE_LOOKED_AT
 gitwire_result gitwire_request_new(gitwire_request **request, gitwire_command command, gitwire_format format, uint32_t limit);
@@ -42,6 +46,14 @@ gitwire_result gitwire_request_empty(gitwire_request **request);
  */
 GITWIRE_LOOKED_AT
 gitwire_answer gitwire_request_add(gitwire_request *request, const char *line, size_t line_length);
+
+/*
+ * Adds a server option after those that the request has: any text, perhaps an empty one. DONE. FAILED, at offset 0: BadLine for a text
+ * with NUL or LF, or of more than GITWIRE_SERVER_OPTION_SIZE bytes, TooMuchKept or OutOfMemory, and the request is unchanged. NO_REQUEST.
+ * A server that does not advertise GITWIRE_FEATURE_SERVER_OPTION cannot be asked such a request (gitwire_client_ask).
+ */
+GITWIRE_LOOKED_AT
+gitwire_answer gitwire_request_add_server_option(gitwire_request *request, const char *option, size_t option_length);
 
 /*
  * Checks what a reader checks at the end of a request, and changes nothing. DONE, or FAILED, at offset 0, with
@@ -84,7 +96,7 @@ gitwire_answer gitwire_request_number(gitwire_request *request, gitwire_number w
 /*
  * An item of a list, counted from 0. DONE with `length` bytes in the buffer: an object name is its digits. NOTHING past the
  * end of the list, and for a list that the request's command does not have. GITWIRE_REFERENCE_NAME_SIZE bytes always
- * suffice. BUFFER_TOO_SMALL, BAD_VALUE, NO_REQUEST.
+ * suffice, and GITWIRE_SERVER_OPTION_SIZE for LIST_SERVER_OPTIONS. BUFFER_TOO_SMALL, BAD_VALUE, NO_REQUEST.
  */
 typedef enum gitwire_list {
 	GITWIRE_LIST_REF_PREFIXES = 1,
@@ -94,7 +106,8 @@ typedef enum gitwire_list {
 	GITWIRE_LIST_DEEPEN_NOTS = 5,
 	GITWIRE_LIST_WANT_REFS = 6,
 	GITWIRE_LIST_OIDS = 7,
-	GITWIRE_LIST_FILTERS = 8      /* filter specifications as received, which no call looks into */
+	GITWIRE_LIST_FILTERS = 8,         /* filter specifications as received, which no call looks into */
+	GITWIRE_LIST_SERVER_OPTIONS = 9   /* of every command; no call looks into them */
 } gitwire_list;
 GITWIRE_LOOKED_AT
 gitwire_answer gitwire_request_item(gitwire_request *request, gitwire_list list, size_t index, char *buffer, size_t buffer_length);
@@ -104,13 +117,13 @@ void gitwire_request_free(gitwire_request *request);
 
 /*
  * Reads requests: however the bytes fed are cut into chunks, the requests returned are their whole requests, in order. The
- * first error is reported by name and offset, and stays. The texts of a request's argument lines are within the limit.
+ * first error is reported by name and offset, and stays. The texts of a request's argument lines and server options are within the limit.
  */
 
 /*
  * A reader of requests to a server that advertises these features (a sum of GITWIRE_FEATURE_*, or 0) and this format. `limit` is
- * how many bytes the texts of a request's argument lines may have together. DONE. BAD_VALUE for a format or a feature that does
- * not exist, and for a limit above GITWIRE_MAXIMUM_LIMIT. OUT_OF_MEMORY.
+ * how many bytes the texts of a request's argument lines and server options may have together. DONE. BAD_VALUE for a format or a feature
+ * that does not exist, and for a limit above GITWIRE_MAXIMUM_LIMIT. OUT_OF_MEMORY.
  */
 GITWIRE_LOOKED_AT
 gitwire_result gitwire_request_reader_new(gitwire_request_reader **reader, gitwire_format format, uint32_t features, uint32_t limit);

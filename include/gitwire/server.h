@@ -65,8 +65,8 @@ void gitwire_repository_free(gitwire_repository *repository);
 
 /*
  * The server's side of a conversation, over a repository: however the input is cut into chunks, the output is exactly the
- * session that the input calls for. At every return the texts of the argument lines that it keeps have together at most as
- * many bytes as its limit; beside them it has one buffer of GITWIRE_PACKET_SIZE bytes.
+ * session that the input calls for. At every return the texts of the argument lines and server options that it keeps have together
+ * at most as many bytes as its limit; beside them it has one buffer of GITWIRE_PACKET_SIZE bytes. A server option changes no answer.
  *
  * One pull can take long. For `ls-refs` the first one sorts the prefixes of the request, a million of them in about a
  * second, and each reference is then looked up among them by binary search. For a `fetch` that cuts the history off, each

@@ -59,6 +59,9 @@ pub(crate) fn explain(
         (ProgramFault::Check(CheckFault::Responses(fault)), _) => {
             show_around(rt, path_of(words, FileArgument::Responses), fault.offset)
         }
+        (_, Cause::ServerOption) => eprintln!(rt;
+            "--server-option: at most 65502 bytes, and no line feed"
+        ),
         (_, Cause::Stray) => eprintln!(rt; "not what a client sent: no request begins there"),
         _ => Ok(()),
     }

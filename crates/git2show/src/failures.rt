@@ -25,6 +25,8 @@ pub(crate) enum Cause {
     ScriptLine(Format),
     /// A packet begins no request, and requests are to be shown.
     Stray,
+    /// A server option of the command line is refused.
+    ServerOption,
 }
 
 /// A call on a file or a stream that failed, with what the system reported.
@@ -107,6 +109,17 @@ impl Failure {
         Failure {
             fault: ProgramFault::Run(RunFault::Refused(Fault { kind, offset })),
             cause: Cause::Stray,
+        }
+    }
+
+    /// The failure of a server option of the command line.
+    pub(crate) fn of_server_option(kind: Kind) -> Failure {
+        match kind {
+            Kind::OutOfMemory => ProgramFault::OutOfMemory.into(),
+            _ => Failure {
+                fault: ProgramFault::Run(RunFault::Refused(Fault { kind, offset: 0 })),
+                cause: Cause::ServerOption,
+            },
         }
     }
 

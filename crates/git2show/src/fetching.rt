@@ -9,7 +9,7 @@ use crate::remote_lines::RemoteLines;
 use crate::{CHUNK, TURNS, ending_of, format_of, read_requests};
 use clap::ArgMatches;
 use git_client::{Client, converse};
-use git_msg::Request;
+use git_msg::{Argument, Request, TextWord};
 use git_pkt::{Discard, Output, Recorded, Retries, escape_into};
 use git2show_lib::ProgramFault;
 use std::alloc::Global;
@@ -26,7 +26,8 @@ const SHOWN: usize = 4 * PART;
 /// named file, which is unchanged if the run fails, and the transcript to a file too, or to standard error. If the command line asks for
 /// it, or standard error is a terminal, the server's progress is shown there.
 pub(crate) fn run_fetch(rt: &HostRuntime, matches: &ArgMatches<'_>) -> Result<(), Failure> {
-    let requests = read_requests(rt, matches, format_of(matches))?;
+    let mut requests = read_requests(rt, matches, format_of(matches))?;
+    add_server_options(matches, &mut requests)?;
     let path = matches.get_str("pack").unwrap_or("");
     let PackFile { file, part } = PackFile::open(rt, path).map_err(pack_failure)?;
     let done = fetch_into(rt, matches, requests, &file);
@@ -40,6 +41,21 @@ pub(crate) fn run_fetch(rt: &HostRuntime, matches: &ArgMatches<'_>) -> Result<()
             Err(failure)
         }
     }
+}
+
+/// Adds the server options of the command line to each request.
+fn add_server_options(
+    matches: &ArgMatches<'_>,
+    requests: &mut Vec<Request<Global>>,
+) -> Result<(), Failure> {
+    let options = matches.get_strs("server-option").unwrap_or(&[]);
+    for request in requests.iter_mut() {
+        for option in options {
+            let option = Argument::Text(TextWord::ServerOption, option.as_bytes());
+            request.add(&option).map_err(Failure::of_server_option)?;
+        }
+    }
+    Ok(())
 }
 
 /// The failure of a pack that cannot be made, or put in its place.

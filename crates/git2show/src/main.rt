@@ -92,7 +92,7 @@ fn serve_command<'a>(alloc: Global) -> Result<Command<'a>, AllocError> {
                 .value_name("N")
                 .value_parser(value_parser!(u32).range(..=i64::from(MOST_KEPT)))
                 .help(
-                    "Refuses a request whose arguments have more than N bytes [default: 16777216]",
+                    "Refuses a request whose arguments and server options have more than N bytes [default: 16777216]",
                 ),
         )?
         .arg(flag_argument(alloc, "stateless-rpc").help(
@@ -127,6 +127,13 @@ fn fetch_command<'a>(alloc: Global) -> Result<Command<'a>, AllocError> {
         .arg(flag_argument(alloc, "progress").help(
             "Shows the server's progress on standard error, even if that is no terminal",
         ))?
+        .arg(
+            Arg::new(alloc, "server-option")
+                .long("server-option")
+                .value_name("OPTION")
+                .action(ArgAction::Append)
+                .help("Sends this server option with each request; may be given several times"),
+        )?
         .arg(format_argument(alloc))?
         .arg(stateless_argument(
             alloc,

@@ -21,7 +21,7 @@ use Rattle.git_msg.specs.Machine.HeldRequest.{IsEmpty, Keeps, add_checks, asked_
 use Rattle.git_msg.specs.Memory.{HasRefused}
 use Rattle.git_msg.specs.Kept.{Adds, IsNew, Kept}
 use Rattle.git_msg.proofs.ArgumentsInOrder.{asked_snoc, command_for, same_command}
-use Rattle.git_msg.proofs.AskedValues.{conveys_in_range}
+use Rattle.git_msg.proofs.AskedValues.{conveys_value}
 use Rattle.git_msg.proofs.Rows.{argument_or_fault, one_argument}
 use Rattle.git_msg.proofs.Values.{added_or_refused}
 use Rattle.git_server.proofs.Refusals.{refused_within}
@@ -73,8 +73,8 @@ module _ {A : Type 0} where
   fits_passes : (offer : Offer) (last : Request A) (text : List ℕ) (arg : Arg) → format_of last ≡ offer.format → FitsIn offer last text arg
       → Passes (add_checks last arg)
   fits_passes offer last text arg format h =
-      let range = conveys_in_range offer.format text arg h.reads.is_argument.1 in
-      ((h.reads.is_argument.0, subst (λ (f : Format). IsInRange f arg) (sym format) range), (h.fits, tt))
+      let value = conveys_value (command_of last) offer.format text arg h.reads.is_argument in
+      ((value.0, subst (λ (f : Format). IsInRange f arg) (sym format) value.1), (h.fits, tt))
 
   -- where the checks refuse the argument that a text is, no argument that fits is this text
   pub none_fits : (offer : Offer) (last : Request A) (text : List ℕ) (arg : Arg) (kind : Kind) → format_of last ≡ offer.format

@@ -96,7 +96,7 @@ pub fn check<Q: Read, R: Read, O: Write, A: Allocator + Copy>(
     ensures useful { has_wasted requests.new ≡ false }
     ensures useful_responses { has_wasted responses.new ≡ false }
     ensures checked { Moves (is_broken (run_result result))
-        (Checked A (terms_of format ending) Limits.USUAL result (standing_of requests.new) (standing_of responses.new))
+        (Checked A (terms_of format ending) Limits.DEFAULT_ARGS result (standing_of requests.new) (standing_of responses.new))
         (flow (Q.remaining (inner_of requests.old)) (Q.remaining (inner_of requests.new))
         ∷ flow (R.remaining (inner_of responses.old)) (R.remaining (inner_of responses.new)) ∷ [])
         (flow (O.contents (inner_of out.old)) (O.contents (inner_of out.new)) ∷ []) }

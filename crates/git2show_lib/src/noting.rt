@@ -10,7 +10,7 @@ use git_pkt::{Got, Kind, Packet, PacketReader, text};
 use std::alloc::{AllocError, Allocator};
 
 /// How many bytes of them are kept at the most.
-const MOST_KEPT: usize = Limits::USUAL as usize;
+const MOST_KEPT: usize = Limits::DEFAULT_ARGS as usize;
 
 /// Keeps such lines.
 #[derive(Drop)]

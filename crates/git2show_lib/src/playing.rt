@@ -245,7 +245,7 @@ pub fn play<R: Repo + Drop, O: Write, P: Output, A: Allocator + Copy>(
     requires sound_out { has_failed out.old ≡ false }
     requires sound_pack { P.failed pack.old ≡ false }
     ensures played { Moves (is_broken result.1)
-        (Played (R.state result.0).failures (terms_of (R.state repo).answers.format ending) Limits.USUAL (R.state repo)
+        (Played (R.state result.0).failures (terms_of (R.state repo).answers.format ending) Limits.DEFAULT_ARGS (R.state repo)
         requests.items result.1) []
         (flow (O.contents (inner_of out.old)) (O.contents (inner_of out.new)) ∷ flow (P.contents pack.old) (P.contents pack.new) ∷ []) }
     ensures fault { IfErr result.1 (IsShownBy ⊥ (IsTrue (has_failed out.new || P.failed pack.new)) ⊥) }
@@ -270,7 +270,7 @@ fn play_one<R: Repo + Drop, O: Write, P: Output, A: Allocator + Copy>(
     requires sound_out { has_failed out.old ≡ false }
     requires sound_pack { P.failed pack.old ≡ false }
     ensures played { Moves (is_broken result.1)
-        (Played (R.state result.0).failures (terms_of (R.state repo).answers.format Ending.FlushOnly) Limits.USUAL
+        (Played (R.state result.0).failures (terms_of (R.state repo).answers.format Ending.FlushOnly) Limits.DEFAULT_ARGS
         (R.state repo) requests.items result.1) []
         (flow (O.contents (inner_of out.old)) (O.contents (inner_of out.new)) ∷ flow (P.contents pack.old) (P.contents pack.new) ∷ []) }
     ensures fault { IfErr result.1 (IsShownBy ⊥ (IsTrue (has_failed out.new || P.failed pack.new)) ⊥) }
@@ -304,7 +304,7 @@ fn play_each<R: Repo + Drop, O: Write, P: Output, A: Allocator + Copy>(
     requires sound_out { has_failed out.old ≡ false }
     requires sound_pack { P.failed pack.old ≡ false }
     ensures played { Moves (is_broken result.1)
-        (Played (R.state result.0).failures (terms_of (R.state repo).answers.format Ending.ResponseEnd) Limits.USUAL
+        (Played (R.state result.0).failures (terms_of (R.state repo).answers.format Ending.ResponseEnd) Limits.DEFAULT_ARGS
         (R.state repo) requests.items result.1) []
         (flow (O.contents (inner_of out.old)) (O.contents (inner_of out.new)) ∷ flow (P.contents pack.old) (P.contents pack.new) ∷ []) }
     ensures fault { IfErr result.1 (IsShownBy ⊥ (IsTrue (has_failed out.new || P.failed pack.new)) ⊥) }
@@ -334,7 +334,8 @@ fn play_each<R: Repo + Drop, O: Write, P: Output, A: Allocator + Copy>(
 
 /// A server that offers everything.
 fn new_server<R: Repo, A: Allocator + Copy>(alloc: A, repo: R, advertise: bool) -> Server<R, A>
-    ensures begins { Stands R.state (setting_of (terms_of (R.state repo).answers.format Ending.FlushOnly) Limits.USUAL (R.state repo) advertise) [] [] result }
+    ensures begins { Stands R.state (setting_of (terms_of (R.state repo).answers.format Ending.FlushOnly) Limits.DEFAULT_ARGS (R.state repo)
+        advertise) [] [] result }
     ensures goes_on { outcome_of result ≡ None }
 {
     let offer = Offer::everything(repo.format());

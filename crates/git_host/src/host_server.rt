@@ -73,8 +73,8 @@ impl<A: Allocator + Copy> HostServer<A> {
     ghost use Rattle.git_host.specs.HostServer.{credit_of, outcome_of, reads_on, setting_of};
     ghost use Rattle.git_host.specs.HostStates.{is_over};
 
-    /// A server at the beginning of a session. Of each request it keeps argument lines whose texts have at most `limits.args` bytes together,
-    /// in memory from `alloc`, and it gives the advertisement of the offer first where `advertise` is set.
+    /// A server at the beginning of a session. Of each request it keeps argument lines and server options whose texts have at most
+    /// `limits.args` bytes together, in memory from `alloc`, and it gives the advertisement of the offer first where `advertise` is set.
     pub fn new(alloc: A, offer: Offer, limits: Limits, advertise: bool) -> HostServer<A>
         ensures hosts { Hosts (setting_of offer limits.args advertise) [] false [] [] result }
         ensures credit { credit_of result ≡ 0 }
@@ -466,8 +466,8 @@ impl<A: Allocator + Copy> HostServer<A> {
     }
 }
 
-// The most that a `HostServer` is with the default allocator, without what its pointers refer to: 65 KiB. Its buffer is 65,520 bytes of it.
-const MOST_SIZE: usize = 66_560;
+// The most that a `HostServer` is with the default allocator, without what its pointers refer to. Its buffer is 65,520 bytes of it.
+const MOST_SIZE: usize = 66_656;
 
 const _: () = prove!(size_of::<HostServer<Global>>() <= MOST_SIZE);
 

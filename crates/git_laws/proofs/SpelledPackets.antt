@@ -1,6 +1,6 @@
 -- Packets as they are written: they fit, and their bytes are split into the same packets again.
 use Rattle.std.proofs.Common.{arith, ◌≡◌, ◌≤◌, ℕ, ◌+◌, Bool, true, false, All, length, List, [], ◌∷◌, ◌++◌, Option, Some, None, codes}
-use Rattle.std.proofs.Common.{refl, ap, sym, ◌∙◌, append_assoc, length-append}
+use Rattle.std.proofs.Common.{refl, ap, if◌then◌else◌, sym, ◌∙◌, append_assoc, length-append}
 use Rattle.std.proofs.lemmas.List.Elements.{All-head, All-tail}
 use Rattle.git_names.specs.declared.object_format.Format.{Format}
 use Rattle.git_names.specs.declared.object_format.Format.TheVariants.{Sha1, Sha256}
@@ -14,9 +14,11 @@ use Rattle.git_msg.proofs.AgentNames.{agent_is_short}
 use Rattle.git_msg.specs.declared.agent.Agent.{Agent}
 use Rattle.git_msg.specs.declared.arguments.Command.{Command}
 use Rattle.git_msg.specs.declared.arguments.Command.TheVariants.{LsRefs, Fetch, ObjectInfo}
-use Rattle.git_msg.specs.Arguments.{Arg, IsValue, name_of, written_text}
+use Rattle.git_msg.specs.declared.words.TextWord.{TextWord}
+use Rattle.git_msg.specs.Arguments.{Arg, IsValue, name_of, with_text, written_text}
 use Rattle.git_msg.specs.Asked.{Asked, HasValues, arguments_in, command_asked}
-use Rattle.git_msg.specs.WrittenRequest.{argument_lines, format_line, lines_written, text_line, where_named, where_set}
+use Rattle.git_msg.specs.WrittenRequest.{FitsLine, argument_line, argument_lines, argument_part, format_line, is_option, lines_written}
+use Rattle.git_msg.specs.WrittenRequest.{options_and_rest, text_line, where_named, where_set}
 use Rattle.git_msg.proofs.KeptBytes.{value_fits}
 use Rattle.git_client.specs.Machine.Client.{spelled}
 use Rattle.git_server.specs.Answers.{AllFit}
@@ -91,11 +93,15 @@ front_are offset (p ∷ ps) more (g ∷ gs) rest (now, fit) (s, later, e, at, is
 text_fits : (text : List ℕ) (others : List Pkt) → length text ≤ 65515 → AllFit others → AllFit (text_line text ∷ others)
 text_fits text others short fit = (omega (arith, short, length-append text (10 ∷ [])), fit)
 
+line_fits : (arg : Arg) (others : List Pkt) → FitsLine arg → AllFit others → AllFit (argument_line arg ∷ others)
+line_fits (with_text TextWord.ServerOption text) others short fit = (omega (arith, short), fit)
+line_fits (with_text TextWord.Filter text) others short fit = text_fits (written_text (with_text TextWord.Filter text)) others (omega (arith, short)) fit
+line_fits arg others short fit = text_fits (written_text arg) others (omega (arith, short)) fit
+
 arguments_fit : (command : Command) (format : Format) (args : List Arg) → All (IsValue command format) args → AllFit (argument_lines args)
 arguments_fit command format [] values = (omega arith, tt)
 arguments_fit command format (arg ∷ args) values =
-    let short = value_fits format arg (All-head (IsValue command format) arg args values).1 in
-    text_fits (written_text arg) (argument_lines args) (omega (arith, short))
+    line_fits arg (argument_lines args) (value_fits format arg (All-head (IsValue command format) arg args values).1)
     (arguments_fit command format args (All-tail (IsValue command format) arg args values))
 
 agent_fits : (named : Option Agent) (others : List Pkt) → AllFit others → AllFit (where_named named others)
@@ -107,6 +113,21 @@ format_fits Sha1 true others fit = text_fits (codes "object-format=sha1") others
 format_fits Sha256 true others fit = text_fits (codes "object-format=sha256") others (omega arith) fit
 format_fits format false others fit = fit
 
+either_fits : (is : Bool) (some others : List Pkt) → AllFit some → AllFit others → AllFit (if is then some else others)
+either_fits true some others fit rest = fit
+either_fits false some others fit rest = rest
+
+-- the server options and all behind them
+rest_fits : (command : Command) (format written : Format) (conveys : Bool) (args : List Arg) → All (IsValue command written) args
+    → AllFit (options_and_rest conveys format args)
+rest_fits command format written conveys [] values = format_fits format conveys _ (omega arith, (omega arith, tt))
+rest_fits command format written conveys (arg ∷ args) values =
+    either_fits (is_option arg) (argument_line arg ∷ options_and_rest conveys format args)
+    (where_set conveys (format_line format) (argument_part (arg ∷ args)))
+    (line_fits arg (options_and_rest conveys format args) (value_fits written arg (All-head (IsValue command written) arg args values).1)
+    (rest_fits command format written conveys args (All-tail (IsValue command written) arg args values)))
+    (format_fits format conveys _ (omega arith, arguments_fit command written (arg ∷ args) values))
+
 command_fits : (command : Command) (others : List Pkt) → AllFit others → AllFit (text_line (codes "command=" ++ name_of command) ∷ others)
 command_fits LsRefs others fit = text_fits (codes "command=ls-refs") others (omega arith) fit
 command_fits Fetch others fit = text_fits (codes "command=fetch") others (omega arith) fit
@@ -115,8 +136,8 @@ command_fits ObjectInfo others fit = text_fits (codes "command=object-info") oth
 request_fits : (writes_agent : Option Agent) (writes_format : Bool) (format written : Format) (q : Asked) → HasValues written q
     → AllFit (lines_written writes_agent writes_format format q)
 request_fits writes_agent writes_format format written q values =
-    command_fits (command_asked q) _ (agent_fits writes_agent _ (format_fits format writes_format _
-    (omega arith, arguments_fit (command_asked q) written (arguments_in q) values.allowed)))
+    command_fits (command_asked q) _ (agent_fits writes_agent _
+    (rest_fits (command_asked q) format written writes_format (arguments_in q) values.allowed))
 
 pub requests_fit : (writes_agent : Option Agent) (writes_format : Bool) (format : Format) (asked : List Asked) → HaveValues asked
     → AllFit (written_all writes_agent writes_format format asked)

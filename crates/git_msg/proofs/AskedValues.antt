@@ -1,11 +1,11 @@
 -- The values that texts contain are allowed in a request, and so are those that they ask for together.
-use Rattle.std.proofs.Common.{arith, ◌≡◌, ℕ, Bool, true, false, None, List, length, inl, inr}
+use Rattle.std.proofs.Common.{arith, ◌≡◌, ℕ, Bool, true, false, None, List, length, inl, inr, refl, subst, sym}
 use Rattle.std.specs.Prelude.{All, MatchBool, slice_get}
 use Rattle.std.proofs.lemmas.Option.{slice_get_cases}
 use Rattle.git_names.specs.declared.object_format.Format.{Format}
 use Rattle.git_msg.specs.declared.arguments.Command.{Command}
 use Rattle.git_msg.specs.declared.arguments.Command.TheVariants.{LsRefs}
-use Rattle.git_msg.specs.Arguments.{Arg, alone, with_id, with_text, with_number, HasArgument, StatesValue, IsArgument, IsInRange, IsValue}
+use Rattle.git_msg.specs.Arguments.{Arg, alone, with_id, with_text, with_number, HasArgument, StatesValue, IsArgument, IsFor, IsInRange, IsValue}
 use Rattle.git_msg.specs.Asked.{HasValues, HasWants, asked_by, only_negotiates, want_refs_in, wants_in}
 use Rattle.git_msg.proofs.WrittenArguments.{all_written, written_again}
 use Rattle.git_msg.proofs.WrittenNames.{named_in}
@@ -21,7 +21,7 @@ pub conveys_in_range : (format : Format) (text : List ℕ) (arg : Arg) → HasAr
 conveys_in_range format text arg h = stated_in_range format h.value arg h.states
 
 pub conveys_value : (c : Command) (format : Format) (text : List ℕ) (arg : Arg) → IsArgument c format text arg → IsValue c format arg
-conveys_value c format text arg h = (h.0, conveys_in_range format text arg h.1)
+conveys_value c format text arg h = (subst (IsFor c) (sym h.0) refl, conveys_in_range format text arg h.1)
 
 -- so the values that arguments ask for together are allowed
 pub asked_has_values : (c : Command) (format : Format) (args : List Arg) → All (IsValue c format) args → HasValues format (asked_by c args)

@@ -16,14 +16,14 @@ use Rattle.git_msg.proofs.ArgumentsInOrder.{asked_snoc, same_command}
 use Rattle.git_msg.proofs.DigitValues.{decimal_is_shortest}
 use Rattle.git_msg.proofs.HeadWords.{line_grows, written_is}
 use Rattle.git_msg.proofs.WrittenNames.{length-hex_of, named_in}
-use Rattle.git_msg.proofs.LineLists.{commands_snoc, arguments_snoc, delimiter_snoc, kept_snoc}
+use Rattle.git_msg.proofs.LineLists.{commands_snoc, kept_arguments_snoc, delimiter_snoc, kept_snoc}
 
 -- one more argument in the argument part
 pub one_more : {A : Type 0} (lines : List Line) (arg : Arg) (long : ℕ) (r : RequestReader A) (q : Request A) (bounded : IsBounded r.offer q)
     → InArguments lines r → Keeps r.request arg long q → InArguments (lines ++ argument arg long ∷ []) (record r { request = q; bounded = bounded })
 one_more lines arg long r q bounded h k =
     let command : command_of q ≡ command_of r.request = ap command_asked k.asked ∙ same_command (asked_of r.request) arg in
-    search (rules, command, delimiter_snoc, commands_snoc, append-nil, asked_snoc, arguments_snoc, kept_snoc)
+    search (rules, command, delimiter_snoc, commands_snoc, append-nil, asked_snoc, kept_arguments_snoc, kept_snoc)
 
 -- an argument's text is no shorter than its written form
 as_stated : (format : Format) (value : List ℕ) (arg : Arg) → StatesValue format value arg → length (written_value arg) ≤ length value

@@ -1,5 +1,5 @@
 -- The words at the head of lines: a line has one, and each is in the list of its command once.
-use Rattle.std.proofs.Common.{arith, ◌≡◌, ◌≢◌, ℕ, ◌+◌, ◌<◌, ◌≤◌, ◌==◌, true, false, not, List, [], ◌∷◌, ◌++◌, length, get_or, refl, sym, ap, ◌∙◌}
+use Rattle.std.proofs.Common.{arith, ◌≡◌, ◌≢◌, ℕ, ◌+◌, ◌<◌, ◌≤◌, ◌==◌, ◌||◌, true, false, not, List, [], ◌∷◌, ◌++◌, length, get_or, refl, sym, ap, ◌∙◌}
 use Rattle.std.proofs.Common.{drop, subst, suc, zero, IfSome, inl, inr, if◌then◌else◌, Option, Some, None, append-nil, length-append}
 use Rattle.std.specs.List.{before_first}
 use Rattle.std.specs.Str.{bytes_eq}
@@ -20,9 +20,9 @@ use Rattle.git_msg.specs.Arguments.{Arg, alone, with_id, line_of, row, word_of, 
 use Rattle.git_msg.specs.Flags.{flag_row}
 use Rattle.git_msg.specs.Asked.{is_word, same_keyword}
 
--- the word at the head of a line
+-- the word at the head of a line, which a space or `=` ends
 abbrev first_word : List ℕ → List ℕ
-first_word line = before_first (λ c. c == 32) line
+first_word line = before_first (λ c. c == 32 || c == 61) line
 
 abbrev word_among : List Word → List ℕ → Option Word
 word_among [] first = None
@@ -100,33 +100,38 @@ abbrev place_among : List Word → Word → ℕ
 place_among [] word = 0
 place_among (first ∷ others) word = if is_word first word then 0 else place_among others word + 1
 
-abbrev place_in : Word → ℕ
-place_in word = place_among (words_of (row word).command) word
+-- the word of one command is in its list
+abbrev IsThere : Option Command → Word → Word → Type 0
+IsThere None word d = Unit {0}
+IsThere (Some c) word d =
+    (place_among (words_of c) word < length (words_of c)) × (get_or (words_of c) (place_among (words_of c) word) d ≡ word)
 
-there : (word d : Word) → (place_in word < length (words_of (row word).command)) × (get_or (words_of (row word).command) (place_in word) d ≡ word)
+there : (word d : Word) → IsThere (row word).command word d
 there (of_flag Flag.Size) d = (omega arith, refl)
 there (of_object ObjectWord.Want) d = (omega arith, refl)
 there (of_text TextWord.Filter) d = (omega arith, refl)
+there (of_text TextWord.ServerOption) d = tt
 there (of_number NumberWord.Deepen) d = (omega arith, refl)
 there word d = (omega arith, refl)
 
 -- the words of a command belong to it
 abbrev AreOf : Command → List Word → Type 0
 AreOf command [] = Unit {0}
-AreOf command (word ∷ others) = ((row word).command ≡ command) × AreOf command others
+AreOf command (word ∷ others) = ((row word).command ≡ Some command) × AreOf command others
 
 own_words : (command : Command) → AreOf command (words_of command)
 own_words LsRefs = search
 own_words Fetch = search
 own_words ObjectInfo = search
 
-own_among : (command : Command) (order : List Word) (i : ℕ) (d : Word) → AreOf command order → i < length order → (row (get_or order i d)).command ≡ command
+own_among : (command : Command) (order : List Word) (i : ℕ) (d : Word) → AreOf command order → i < length order
+    → (row (get_or order i d)).command ≡ Some command
 own_among command [] i d of within = absurd (omega arith)
 own_among command (word ∷ others) zero d of within = of.0
 own_among command (word ∷ others) (suc i) d of within = own_among command others i d of.1 (omega arith)
 
 pub own_command : (command : Command) (order : List Word) (i : ℕ) (d : Word) → order ≡ words_of command → i < length order
-    → (row (get_or order i d)).command ≡ command
+    → (row (get_or order i d)).command ≡ Some command
 own_command command order i d is within = own_among command order i d (subst (AreOf command) (sym is) (own_words command)) within
 
 -- a line that begins with none of a list's words from this place on
@@ -150,14 +155,12 @@ none_at order line from at e next within later not k d value above below h = eli
 pub none_there : (command : Command) (order : List Word) (line : List ℕ) (from : ℕ) → order ≡ words_of command → from ≤ 0
     → BeginsWithNone order from line → IsNoArgument command line
 none_there command order line from is first none word value of h =
-    let at : get_or (words_of command) (place_in word) word ≡ word =
-    subst (λ (c : Command). get_or (words_of c) (place_in word) word ≡ word) of (there word word).1 in
-    let within : place_in word < length (words_of command) = subst (λ (c : Command). place_in word < length (words_of c)) of (there word word).0 in
-    (rw is at none) (place_in word) word value (omega arith) within (h ∙ sym (ap (λ (w : Word). line_of w value) at))
+    let (within, at) = subst (λ (own : Option Command). IsThere own word word) of (there word word) in
+    (rw is at none) (place_among (words_of command) word) word value (omega arith) within (h ∙ sym (ap (λ (w : Word). line_of w value) at))
 
 -- nor if its first word is none of the command's, or it is not the line of that word
 pub none_named : (command : Command) (line : List ℕ)
-    → IfSome (word_in line) (λ word. (row word).command ≡ command → (value : List ℕ) → line ≢ line_of word value) → IsNoArgument command line
+    → IfSome (word_in line) (λ word. (row word).command ≡ Some command → (value : List ℕ) → line ≢ line_of word value) → IsNoArgument command line
 none_named command line none word value of h =
     let found : word_in line ≡ Some word = ap word_in h ∙ word_heads word value in
-    subst (λ (o : Option Word). IfSome o (λ w. (row w).command ≡ command → (v : List ℕ) → line ≢ line_of w v)) found none of value h
+    subst (λ (o : Option Word). IfSome o (λ w. (row w).command ≡ Some command → (v : List ℕ) → line ≢ line_of w v)) found none of value h

@@ -19,7 +19,7 @@ use Rattle.git_msg.specs.declared.words.ObjectWord.{ObjectWord}
 use Rattle.git_msg.specs.declared.words.TextWord.{TextWord}
 use Rattle.git_msg.specs.declared.words.NumberWord.{NumberWord}
 use Rattle.git_msg.specs.Arguments.{Arg, alone, with_id, with_number, with_text, words}
-use Rattle.git_msg.specs.Asked.{is_given, is_word, is_of, last_counts, all_or_last, AreInOrder, flag_among, value_in}
+use Rattle.git_msg.specs.Asked.{is_given, is_word, is_of, of_word, last_counts, all_or_last, AreInOrder, flag_among, value_in}
 use Rattle.git_msg.specs.Asked.{id_of, ids, number, number_of, text_of, texts, where_asked, where_given, with_one}
 use Rattle.git_msg.specs.Machine.ArgumentLists.{held, held_at, ids_at, is_held, number_at, number_place, object_place, place_of}
 use Rattle.git_msg.specs.Machine.PlacedLists.{items_at, items_in, lists_of}
@@ -251,6 +251,29 @@ module _ {A : Type 0} (q : ArgumentLists A) where
     pub none_held : held q ≡ []
     unfolding held
     none_held = same_lists (held_at q) (λ word. []) none_at words
+
+  -- the server options alone
+  abbrev option_word : Word
+  option_word = of_text TextWord.ServerOption
+
+  abbrev alone_at : Word → List Arg
+  alone_at word = if is_word word option_word then held_at q option_word else []
+
+  module _ (new : ArgumentLists A) (flags : (place : ℕ) → get_or new.flags.set place false ≡ false) (objects : items_in new.objects ≡ 0)
+      (same : texts_of new.texts TextWord.ServerOption ≡ texts_of q.texts TextWord.ServerOption)
+      (others : (word : TextWord) → (text_place word == 4) ≡ false → texts_of new.texts word ≡ [])
+      (numbers : list_any is_given new.numbers ≡ false) where
+    option_at : (word : Word) → held_at new word ≡ alone_at word
+    option_at (of_flag flag) = ap (λ (set : Bool). where_asked set flag) (flags (place_of flag))
+    option_at (of_object word) = ap (map (with_id word)) (nothing_at (map (λ v. v.items) (lists_of new.objects)) (object_place word) objects)
+    option_at (of_text TextWord.ServerOption) = ap (map (with_text TextWord.ServerOption)) same
+    option_at (of_text word) = ap (map (with_text word)) (others word refl)
+    option_at (of_number word) = ap (where_given word) (none_given new.numbers (number_place word) numbers)
+
+    pub options_held : held new ≡ of_word option_word (held q)
+    unfolding held
+    options_held =
+        same_lists (held_at new) alone_at option_at words ∙ append-nil (held_at q option_word) ∙ sym (found (held_at q) held_own option_word)
 
   -- the arguments from a word on
   from_word : (order : List Word) (i : ℕ) (d : Word) → i < length order

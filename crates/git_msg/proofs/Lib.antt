@@ -21,6 +21,8 @@ pub mod LinesLeft
 pub mod RoundTrip
 pub mod FaultLaws
 pub mod HeldArguments
+pub mod OptionsAlone
+pub mod OptionsFirst
 pub mod WrittenArguments
 pub mod KeptBytes
 pub mod RefusedLists

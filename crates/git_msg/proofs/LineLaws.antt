@@ -1,5 +1,6 @@
 -- A packet is one line or has one error, never both.
-use Rattle.std.proofs.Common.{arith, ◌≡◌, ℕ, ◌+◌, ◌<◌, ◌≤◌, Bool, true, false, Option, Some, List, [], ◌∷◌, ◌++◌, refl, ap, sym, ◌∙◌, subst, length, inl, inr}
+use Rattle.std.proofs.Common.{arith, ◌≡◌, ℕ, ◌+◌, ◌<◌, ◌≤◌, Bool, true, false, Option, None, Some, List, [], ◌∷◌, ◌++◌, length}
+use Rattle.std.proofs.Common.{refl, ap, sym, ◌∙◌, subst, inl, inr, rules}
 use Rattle.std.proofs.lemmas.List.{same_from_push}
 use Rattle.git_names.specs.declared.object_format.Format.{Format}
 use Rattle.git_names.specs.declared.object_format.Format.TheVariants.{Sha1, Sha256}
@@ -17,9 +18,10 @@ use Rattle.git_msg.specs.Advertisement.{takes_command}
 use Rattle.git_msg.specs.Arguments.{Arg, ReadsAs, name_of}
 use Rattle.git_msg.specs.declared.flags.Flag.{Flag}
 use Rattle.git_msg.specs.Asked.{Asked, ls_refs, fetch, object_info, flag_among}
-use Rattle.git_msg.specs.Checks.{Refuses, Passes}
-use Rattle.git_msg.specs.Lines.{Line, command, agent, server_option, object_format, delimiter, argument, argument_in, is_none, commands_of, kept_in}
-use Rattle.git_msg.specs.Lines.{has_delimiter, HasKey, NamesTaken, key_checks, by_key, capability_checks}
+use Rattle.git_msg.specs.Checks.{Check, Refuses, Passes}
+use Rattle.git_msg.specs.Lines.{Line, command, unkept, server_option, object_format, delimiter, argument, argument_in, is_none, commands_of, kept_in}
+use Rattle.git_msg.specs.Lines.{has_delimiter, HasKey, FitsLimit, ExceedsLimit, IsNoOption, IsOption, NamesTaken, key_checks, by_key}
+use Rattle.git_msg.specs.Lines.{capability_checks, noting_checks, limit_check}
 use Rattle.git_msg.specs.Lines.{IsLineOf, IsCapabilityLine, IsFormatMeant, IsOtherFormatMeant, part_checks, argument_checks, IsArgumentLine}
 use Rattle.git_msg.specs.Lines.{IsArgumentText, IsArgumentRefused, end_checks, at_end, flush_checks_in, IsLine, IsLineIn, HasFault, HasFaultIn}
 use Rattle.git_msg.specs.Requests.{AreLines, Asks, IsLineAfter}
@@ -27,7 +29,6 @@ use Rattle.git_msg.proofs.CheckLaws.{IsFair, AllFair, passes_or_refuses, one_nam
 use Rattle.git_msg.proofs.ItemLaws.{one_list}
 use Rattle.git_msg.proofs.Keys.{one_capability}
 use Rattle.git_msg.proofs.Rows.{one_key, one_argument, argument_or_fault, one_argument_fault}
-use Rattle.std.proofs.Common.{rules}
 
 -- a text has one key
 same_key : (text : List ℕ) (a b : Key) (v w : Option (List ℕ)) → HasKey text a v → HasKey text b w → (a ≡ b) × (v ≡ w)
@@ -36,11 +37,15 @@ same_key text a b v w h k = search (rules, one_capability, one_key)
 true_false : (b : Bool) → b ≡ true → b ≡ false → ⊥
 true_false b h k = cc
 
+option_or_none : (value : Option (List ℕ)) → IsOption value → IsNoOption value → ⊥
+option_or_none None h k = k
+option_or_none (Some option) h k = omega (arith, h, k)
+
 fair_keys : (offer : Offer) (first : Bool) (key : Key) (value : Option (List ℕ)) → AllFair (key_checks offer first key value)
 unfolding AllFair
 fair_keys offer first CommandKey value = search (rules, fair_check, true_false)
 fair_keys offer first AgentKey value = tt
-fair_keys offer first ServerOptionKey value = search (rules, fair_check, true_false)
+fair_keys offer first ServerOptionKey value = search (rules, fair_check, true_false, option_or_none)
 fair_keys offer first ObjectFormatKey value = search (rules, fair_check)
 fair_keys offer first OtherKey value = (fair_check ⊥ (Unit {0}) NotAdvertised (λ p q. p), tt)
 
@@ -103,40 +108,6 @@ unfolding AllFair
 fair_flush true offer lines = (fair_at_end lines, tt)
 fair_flush false offer lines = search (rules, fair_part, fair_at_end)
 
--- a capability line passes all its checks
-line_passes : (offer : Offer) (first : Bool) (text : List ℕ) (line : Line)
-    → IsCapabilityLine offer first text line → Passes (capability_checks offer first text)
-line_passes offer first text line h = (h.no_error, ((h.has_key.word, h.value, h.has_key.is_capability), ((h.key, h.value, h.has_key, h.allowed), tt)))
-
-argument_passes : (offer : Offer) (limit : ℕ) (before : List Line) (text : List ℕ) (arg : Arg) (long : ℕ)
-    → (h : IsArgumentLine offer limit before text arg long) → Passes (argument_checks offer limit h.is_text.of (kept_in before) text)
-argument_passes offer limit before text arg long h = search rules
-
-argument_line_or_fault : (offer : Offer) (limit : ℕ) (before : List Line) (text : List ℕ) (arg : Arg) (long : ℕ) (kind : Kind)
-    → IsArgumentLine offer limit before text arg long → IsArgumentRefused offer limit before text kind → ⊥
-argument_line_or_fault offer limit before text arg long kind h r =
-    let same = same_command (commands_of before) h.is_text.of r.of h.is_text.asked r.asked in
-    passes_or_refuses (argument_checks offer limit r.of (kept_in before) text) (fair_argument offer limit r.of (kept_in before) text) kind
-    (subst (λ (c : Command). Passes (argument_checks offer limit c (kept_in before) text)) same
-    (argument_passes offer limit before text arg long h)) r.refuses
-
-capability_line_or_fault : (offer : Offer) (first : Bool) (text : List ℕ) (line : Line) (kind : Kind)
-    → IsCapabilityLine offer first text line → Refuses (capability_checks offer first text) kind → ⊥
-capability_line_or_fault offer first text line kind h r =
-    passes_or_refuses (capability_checks offer first text) (fair_capability offer first text) kind (line_passes offer first text line h) r
-
--- the same in either part
-line_or_fault_in : (part : Bool) (offer : Offer) (limit : ℕ) (before : List Line) (packet : Pkt) (line : Line) (kind : Kind)
-    → IsLineIn part offer limit before packet line → HasFaultIn part offer limit before packet kind → ⊥
-line_or_fault_in false offer limit before (payload bytes) line kind h r = search (rules, capability_line_or_fault)
-line_or_fault_in false offer limit before delim delimiter kind h r = search (rules, passes_or_refuses, fair_part)
-line_or_fault_in true offer limit before (payload bytes) (argument arg long) kind h r = search (rules, argument_line_or_fault)
-line_or_fault_in part offer limit before packet line kind h r = absurd h
-
-pub line_or_fault : (offer : Offer) (limit : ℕ) (before : List Line) (packet : Pkt) (line : Line) (kind : Kind)
-    → IsLine offer limit before packet line → HasFault offer limit before packet kind → ⊥
-line_or_fault offer limit before packet line kind h r = line_or_fault_in (has_delimiter before) offer limit before packet line kind h r
-
 -- a name is that of one command
 one_command : (c d : Command) → name_of c ≡ name_of d → c ≡ d
 one_command LsRefs LsRefs h = refl
@@ -155,14 +126,80 @@ names_taken offer value c is taken d other = subst (λ (x : Command). takes_comm
 -- a capability is one line
 one_line_of : (key : Key) (value : Option (List ℕ)) (line other : Line) → IsLineOf key value line → IsLineOf key value other → line ≡ other
 one_line_of CommandKey value (command c) (command d) h k = ap command (named value c d h k)
-one_line_of AgentKey value agent agent h k = refl
-one_line_of ServerOptionKey value server_option server_option h k = refl
+one_line_of AgentKey value unkept unkept h k = refl
+one_line_of ServerOptionKey None unkept unkept h k = refl
+one_line_of ServerOptionKey (Some value) (server_option a) (server_option b) h k = ap server_option (sym h ∙ k)
 one_line_of ObjectFormatKey value object_format object_format h k = refl
 one_line_of key value line other h k = absurd assumption
 
 one_capability_line : (offer : Offer) (first : Bool) (text : List ℕ) (line other : Line)
     → IsCapabilityLine offer first text line → IsCapabilityLine offer first text other → line ≡ other
 one_capability_line offer first text line other h k = search (rules, same_key, one_line_of)
+
+-- a capability line passes all its checks
+pub line_passes : (offer : Offer) (first : Bool) (text : List ℕ) (line : Line)
+    → IsCapabilityLine offer first text line → Passes (capability_checks offer first text)
+line_passes offer first text line h = (h.no_error, ((h.has_key.word, h.value, h.has_key.is_capability), ((h.key, h.value, h.has_key, h.allowed), tt)))
+
+argument_passes : (offer : Offer) (limit : ℕ) (before : List Line) (text : List ℕ) (arg : Arg) (long : ℕ)
+    → (h : IsArgumentLine offer limit before text arg long) → Passes (argument_checks offer limit h.is_text.of (kept_in before) text)
+argument_passes offer limit before text arg long h = search rules
+
+argument_line_or_fault : (offer : Offer) (limit : ℕ) (before : List Line) (text : List ℕ) (arg : Arg) (long : ℕ) (kind : Kind)
+    → IsArgumentLine offer limit before text arg long → IsArgumentRefused offer limit before text kind → ⊥
+argument_line_or_fault offer limit before text arg long kind h r =
+    let same = same_command (commands_of before) h.is_text.of r.of h.is_text.asked r.asked in
+    passes_or_refuses (argument_checks offer limit r.of (kept_in before) text) (fair_argument offer limit r.of (kept_in before) text) kind
+    (subst (λ (c : Command). Passes (argument_checks offer limit c (kept_in before) text)) same
+    (argument_passes offer limit before text arg long h)) r.refuses
+
+-- a line fits within the limit or does not, never both
+fits_or_exceeds : (limit kept : ℕ) (line : Line) → FitsLimit limit kept line → ExceedsLimit limit kept line → ⊥
+fits_or_exceeds limit kept (server_option option) h k = omega (arith, h, k)
+fits_or_exceeds limit kept line h k = k
+
+-- checks and one more after them
+fair_behind : (cs : List Check) (c : Check) → AllFair cs → IsFair c → AllFair (cs ++ c ∷ [])
+unfolding AllFair
+fair_behind [] c h last = (last, tt)
+fair_behind (first ∷ cs) c h last = (h.0, fair_behind cs c h.1 last)
+
+passes_behind : (cs : List Check) (c : Check) → Passes cs → c.passes → Passes (cs ++ c ∷ [])
+passes_behind [] c h last = (last, tt)
+passes_behind (first ∷ cs) c h last = (h.0, passes_behind cs c h.1 last)
+
+fair_noting : (offer : Offer) (limit : ℕ) (first : Bool) (kept : ℕ) (text : List ℕ) → AllFair (noting_checks offer limit first kept text)
+fair_noting offer limit first kept text =
+    fair_behind (capability_checks offer first text) (limit_check offer limit first kept text) (fair_capability offer first text)
+    (fair_check ((line : Line) → IsCapabilityLine offer first text line → FitsLimit limit kept line)
+    ((line : Line) × IsCapabilityLine offer first text line × ExceedsLimit limit kept line) TooMuchKept
+    (λ p q. fits_or_exceeds limit kept q.0 (p q.0 q.1) q.2))
+
+-- a line that fits within the limit passes that check too
+noted_passes : (offer : Offer) (limit : ℕ) (first : Bool) (kept : ℕ) (text : List ℕ) (line : Line)
+    → IsCapabilityLine offer first text line → FitsLimit limit kept line → Passes (noting_checks offer limit first kept text)
+noted_passes offer limit first kept text line h in_limit =
+    passes_behind (capability_checks offer first text) (limit_check offer limit first kept text) (line_passes offer first text line h)
+    (λ other k. subst (FitsLimit limit kept) (one_capability_line offer first text line other h k) in_limit)
+
+noted_line_or_fault : (offer : Offer) (limit : ℕ) (first : Bool) (kept : ℕ) (text : List ℕ) (line : Line) (kind : Kind)
+    → IsCapabilityLine offer first text line → FitsLimit limit kept line → Refuses (noting_checks offer limit first kept text) kind → ⊥
+noted_line_or_fault offer limit first kept text line kind h in_limit r =
+    passes_or_refuses (noting_checks offer limit first kept text) (fair_noting offer limit first kept text) kind
+    (noted_passes offer limit first kept text line h in_limit) r
+
+-- the same in either part
+line_or_fault_in : (part : Bool) (offer : Offer) (limit : ℕ) (before : List Line) (packet : Pkt) (line : Line) (kind : Kind)
+    → IsLineIn part offer limit before packet line → HasFaultIn part offer limit before packet kind → ⊥
+line_or_fault_in false offer limit before (payload bytes) line kind h r =
+    noted_line_or_fault offer limit (is_none (commands_of before)) (kept_in before) (text_of bytes) line kind h.0 h.1 r
+line_or_fault_in false offer limit before delim delimiter kind h r = search (rules, passes_or_refuses, fair_part)
+line_or_fault_in true offer limit before (payload bytes) (argument arg long) kind h r = search (rules, argument_line_or_fault)
+line_or_fault_in part offer limit before packet line kind h r = absurd h
+
+pub line_or_fault : (offer : Offer) (limit : ℕ) (before : List Line) (packet : Pkt) (line : Line) (kind : Kind)
+    → IsLine offer limit before packet line → HasFault offer limit before packet kind → ⊥
+line_or_fault offer limit before packet line kind h r = line_or_fault_in (has_delimiter before) offer limit before packet line kind h r
 
 -- the line of an argument is a payload after the delimiter
 pub record IsArgumentPayload (offer : Offer) (part : Bool) (before : List Line) (packet : Pkt) (arg : Arg) : Type 0 where
@@ -173,6 +210,8 @@ pub record IsArgumentPayload (offer : Offer) (part : Bool) (before : List Line) 
 
 pub no_argument_of : (key : Key) (value : Option (List ℕ)) (arg : Arg) (long : ℕ) → IsLineOf key value (argument arg long) → ⊥
 no_argument_of CommandKey value arg long h = h
+no_argument_of ServerOptionKey None arg long h = h
+no_argument_of ServerOptionKey (Some option) arg long h = h
 no_argument_of key value arg long h = h
 
 argument_payload_in : (part : Bool) (offer : Offer) (limit : ℕ) (before : List Line) (packet : Pkt) (line : Line) (arg : Arg)
@@ -180,7 +219,7 @@ argument_payload_in : (part : Bool) (offer : Offer) (limit : ℕ) (before : List
 argument_payload_in true offer limit before (payload bytes) (argument a long) arg h is =
     let same : a ≡ arg = cc in
     record { behind = refl; bytes = bytes; data_packet = refl; is_text = subst (IsArgumentText offer before (text_of bytes)) same h.is_text }
-argument_payload_in false offer limit before (payload bytes) (argument a long) arg h is = absurd (no_argument_of h.key h.value a long h.line_is)
+argument_payload_in false offer limit before (payload bytes) (argument a long) arg h is = absurd (no_argument_of h.0.key h.0.value a long h.0.line_is)
 argument_payload_in part offer limit before packet (argument a long) arg h is = absurd h
 argument_payload_in part offer limit before packet line arg h is = absurd (cc)
 
@@ -224,7 +263,8 @@ one_argument_line offer limit before text a b m n h k =
 
 one_line_in : (part : Bool) (offer : Offer) (limit : ℕ) (before : List Line) (packet : Pkt) (line other : Line)
     → IsLineIn part offer limit before packet line → IsLineIn part offer limit before packet other → line ≡ other
-one_line_in false offer limit before (payload bytes) line other h k = one_capability_line offer (is_none (commands_of before)) (text_of bytes) line other h k
+one_line_in false offer limit before (payload bytes) line other h k =
+    one_capability_line offer (is_none (commands_of before)) (text_of bytes) line other h.0 k.0
 one_line_in false offer limit before delim delimiter delimiter h k = refl
 one_line_in true offer limit before (payload bytes) (argument a m) (argument b n) h k = one_argument_line offer limit before (text_of bytes) a b m n h k
 one_line_in false offer limit before delim delimiter other h k = absurd k
@@ -239,8 +279,8 @@ one_line offer limit before packet line other h k = one_line_in (has_delimiter b
 one_fault_in : (part : Bool) (offer : Offer) (limit : ℕ) (before : List Line) (packet : Pkt) (kind other : Kind)
     → HasFaultIn part offer limit before packet kind → HasFaultIn part offer limit before packet other → kind ≡ other
 one_fault_in false offer limit before (payload bytes) kind other h k =
-    one_name (capability_checks offer (is_none (commands_of before)) (text_of bytes))
-    (fair_capability offer (is_none (commands_of before)) (text_of bytes)) kind other h k
+    one_name (noting_checks offer limit (is_none (commands_of before)) (kept_in before) (text_of bytes))
+    (fair_noting offer limit (is_none (commands_of before)) (kept_in before) (text_of bytes)) kind other h k
 one_fault_in false offer limit before delim kind other h k = search (rules, one_name, fair_part)
 one_fault_in false offer limit before flush kind other h k = one_name (flush_checks_in false offer before) (fair_flush false offer before) kind other h.1 k.1
 one_fault_in false offer limit before resp_end kind other h k = h ∙ sym k

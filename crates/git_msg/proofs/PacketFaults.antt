@@ -1,6 +1,6 @@
 -- The errors with which no packet of a request is refused.
-use Rattle.std.proofs.Common.{◌≡◌, ◌≢◌, ℕ, ◌∙◌, Bool, true, false, Option, List, [], ◌∷◌, subst, sym, inl, inr, rules}
-use Rattle.git_pkt.specs.Packets.{Pkt, flush, delim, resp_end, payload}
+use Rattle.std.proofs.Common.{◌≡◌, ◌≢◌, ℕ, ◌∙◌, Bool, true, false, Option, List, [], ◌∷◌, ◌++◌, subst, sym, inl, inr, rules}
+use Rattle.git_pkt.specs.Packets.{Pkt, flush, delim, resp_end, payload, text_of}
 use Rattle.git_pkt.specs.Splits.{Given}
 use Rattle.git_pkt.specs.declared.fault.Fault.{Fault}
 use Rattle.git_pkt.specs.declared.fault.Kind.{Kind}
@@ -8,15 +8,15 @@ use Rattle.git_pkt.specs.declared.fault.Kind.TheVariants.{NotOurs, OutOfMemory, 
 use Rattle.git_msg.specs.declared.offers.Offer.{Offer}
 use Rattle.git_msg.specs.declared.arguments.Command.{Command}
 use Rattle.git_msg.specs.declared.capability_key.Key.{Key}
-use Rattle.git_msg.specs.declared.capability_key.Key.TheVariants.{CommandKey, AgentKey}
+use Rattle.git_msg.specs.declared.capability_key.Key.TheVariants.{CommandKey, AgentKey, ServerOptionKey}
 use Rattle.git_msg.specs.declared.words.Word.TheVariants.{Flag as of_flag, Text as of_text}
 use Rattle.git_msg.specs.declared.words.TextWord.{TextWord}
 use Rattle.git_msg.specs.Arguments.{refusal_of, IsArgumentFault}
 use Rattle.git_msg.specs.declared.words.Word.{Word}
 use Rattle.git_msg.specs.Asked.{Asked, ls_refs, fetch, object_info}
 use Rattle.git_msg.specs.Checks.{Check, Refuses}
-use Rattle.git_msg.specs.Lines.{Line, argument_checks, capability_checks, commands_of, end_checks, flush_checks_in, has_format}
-use Rattle.git_msg.specs.Lines.{key_checks, part_checks, text_checks, HasFaultIn}
+use Rattle.git_msg.specs.Lines.{Line, argument_checks, capability_checks, commands_of, end_checks, flush_checks_in, has_format, is_none, kept_in}
+use Rattle.git_msg.specs.Lines.{key_checks, noting_checks, part_checks, limit_check, text_checks, HasFaultIn}
 use Rattle.git_msg.specs.Requests.{IsAnnounced}
 
 -- errors that no packet has by itself: those of the limit, of memory, of the stream, of a repository or of the source of a pack
@@ -62,6 +62,7 @@ module _ (kind : Kind) (strange : NotByItself kind) where
   unfolding AllQuiet
   quiet_keys offer first CommandKey value = search rules
   quiet_keys offer first AgentKey value = tt
+  quiet_keys offer first ServerOptionKey value = ((λ r. subst NotByItself r.1 strange), ((λ r. subst NotByItself r.1 strange), tt))
   quiet_keys offer first key value = ((λ r. subst NotByItself r.1 strange), tt)
 
   quiet_capability : (offer : Offer) (first : Bool) (text : List ℕ) → AllQuiet kind (capability_checks offer first text)
@@ -96,10 +97,6 @@ otherwise : (name : Kind) (cs : List Check) → AllQuiet name cs → (kind : Kin
 otherwise name cs all kind refuses is = quiet name cs all (subst (λ (k : Kind). Refuses cs k) is refuses)
 
 -- a packet that is judged by itself is not refused for the limit
-pub not_for_limit_by_capability : (offer : Offer) (first : Bool) (text : List ℕ) (kind : Kind)
-    → Refuses (capability_checks offer first text) kind → kind ≢ TooMuchKept
-not_for_limit_by_capability offer first text = otherwise TooMuchKept (capability_checks offer first text) (quiet_capability TooMuchKept tt offer first text)
-
 pub not_for_limit_by_text : (c : Command) (offer : Offer) (text : List ℕ) (kind : Kind) → Refuses (text_checks c offer text) kind → kind ≢ TooMuchKept
 not_for_limit_by_text c offer text = otherwise TooMuchKept (text_checks c offer text) (quiet_text TooMuchKept tt c offer text)
 
@@ -119,8 +116,19 @@ module _ (kind : Kind) (strange : NotOfPackets kind) where
   unfolding AllQuiet
   quiet_argument offer limit c kept text = search (rules, quiet_text, itself)
 
+  quiet_behind : (cs : List Check) (c : Check) → AllQuiet kind cs → (c.refuses kind → ⊥) → AllQuiet kind (cs ++ c ∷ [])
+  unfolding AllQuiet
+  quiet_behind [] c h last = (last, tt)
+  quiet_behind (first ∷ cs) c h last = (h.0, quiet_behind cs c h.1 last)
+
+  quiet_noting : (offer : Offer) (limit : ℕ) (first : Bool) (kept : ℕ) (text : List ℕ) → AllQuiet kind (noting_checks offer limit first kept text)
+  quiet_noting offer limit first kept text =
+      quiet_behind (capability_checks offer first text) (limit_check offer limit first kept text) (quiet_capability kind itself offer first text)
+      (λ r. subst NotOfPackets r.1 strange)
+
   no_such_fault : (part : Bool) (offer : Offer) (limit : ℕ) (before : List Line) (packet : Pkt) → HasFaultIn part offer limit before packet kind → ⊥
-  no_such_fault false offer limit before (payload bytes) r = search (rules, quiet, quiet_capability, itself)
+  no_such_fault false offer limit before (payload bytes) r =
+      quiet kind (noting_checks offer limit (is_none (commands_of before)) (kept_in before) (text_of bytes)) (quiet_noting offer limit _ _ _) r
   no_such_fault false offer limit before delim r = quiet kind (part_checks offer (commands_of before) (has_format before)) (quiet_part kind itself offer _ _) r
   no_such_fault false offer limit before flush r = quiet kind (flush_checks_in false offer before) (quiet_flush kind itself false offer before) r.1
   no_such_fault false offer limit before resp_end r = subst NotOfPackets r strange

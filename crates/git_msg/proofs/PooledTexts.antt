@@ -6,7 +6,7 @@ use Rattle.std.proofs.lemmas.List.{append_assoc, length-append, take-append-le, 
 use Rattle.std.proofs.Common.{take}
 use Rattle.std.specs.Prelude.{Err, Ok, OnErr, OnOk, Result, Vec}
 use Rattle.git_pkt.specs.declared.fault.Kind.{Kind}
-use Rattle.std.proofs.lemmas.List.Elements.{All-push, All-weaker}
+use Rattle.std.proofs.lemmas.List.Elements.{All-nil, All-push, All-weaker}
 use Rattle.git_msg.specs.Machine.PlacedLists.{AreEnds, items_at}
 use Rattle.git_msg.specs.Machine.TextPools.{IsEnd, long_at, pooled, text_at, text_place, where_same}
 use Rattle.git_msg.specs.declared.parts.Lists.{Lists}
@@ -88,6 +88,12 @@ pub ends_ordered : {A : Type 0} (bytes : List ℕ) (ends : Lists ℕ A) (moved :
     → AreEnds bytes ends → AreEnds bytes (record ends { first = moved })
 ends_ordered bytes ends moved moves sound TextWord.RefPrefix = moves (sound TextWord.RefPrefix)
 ends_ordered bytes ends moved moves sound word = sound word
+
+-- and those of the server options alone
+pub ends_alone : {A : Type 0} (bytes : List ℕ) (ends new : Lists ℕ A) → items_at new 4 ≡ items_at ends 4
+    → ((place : ℕ) → (place == 4) ≡ false → items_at new place ≡ []) → AreEnds bytes ends → AreEnds bytes new
+ends_alone bytes ends new same none sound TextWord.ServerOption = rw same (sound TextWord.ServerOption)
+ends_alone bytes ends new same none sound word = rw (none (text_place word) refl) (All-nil (IsEnd bytes))
 
 pub cut_back : (bytes more : List ℕ) → take (length bytes) (bytes ++ more) ≡ bytes
 cut_back bytes more = search (rules, take-append-le, take-length)

@@ -63,6 +63,8 @@ lengths_apart least text h (inr k) = omega (arith, h.1, k)
 
 pub text_or_none : (word : TextWord) (text : List ℕ) → IsTextOf word text → IsNoTextOf word text → ⊥
 text_or_none TextWord.WantRef text h k = k h
+text_or_none TextWord.ServerOption text h (inl k) = let value = h.0 in cc
+text_or_none TextWord.ServerOption text h (inr k) = omega (arith, h.1, k)
 text_or_none word text h k = lengths_apart (least_text word) text h k
 
 -- nor is any value

@@ -237,7 +237,9 @@ module _ {A : Type 0} (old new : RequestStream A) (u : List ℕ) (wants : wants_
 
       by : (rest : List ℕ) → Reads new.packets 0 (used ++ u) (h.packets ++ g ∷ []) rest → rest ≡ [] → (got : ReadGot A)
           → Brings nothing_barred old.requests g got new.requests → new.stage ≡ stage_brought got → HasRead (used ++ u) (asked ++ asked_by got) new
-      by rest stream none More brings is = search (rules, takes, has_read, none_more, some_left)
+      by rest stream none More brings is =
+          let (now, begun, unbarred) = brings.brings h.left takes in
+          has_read (h.packets ++ g ∷ []) (h.left ++ g ∷ []) rest (asked ++ []) Within is stream none_more (some_left h.left g, begun) (λ on. now)
       by rest stream none (Request request) brings is =
           let (now, asks, format) = brings.brings h.left takes in
           has_read (h.packets ++ g ∷ []) [] rest (asked ++ asked_by (Request request)) Between is stream

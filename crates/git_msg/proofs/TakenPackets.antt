@@ -91,12 +91,11 @@ module _ {A : Type 0} (barred : Arg → Option Kind) (old new : RequestReader A)
         front = packets;
         last = g;
         lines = t.lines;
-        arg = lacks.arg;
-        long = lacks.long;
+        line = lacks.line;
         whole = refl;
         taken = front_lines;
         is_line = rw (offer, limit) lacks.is_line;
-        takes_memory = lacks.takes_memory;
+        needs_memory = lacks.needs_memory;
         name = lacks.name;
         at = refl;
       }),

@@ -167,7 +167,7 @@ twice true args = last_of_last args
 twice false args = refl
 
 module _ (args : List Arg) where
-  counted_own : (word : Word) → All (λ arg. is_of word arg ≡ true) (counting word args)
+  pub counted_own : (word : Word) → All (λ arg. is_of word arg ≡ true) (counting word args)
   counted_own word = all_kept (λ arg. is_of word arg ≡ true) (last_counts word) (of_word word args) (filter_passes (is_of word) args)
 
   counted_twice : (word : Word) → all_or_last (last_counts word) (counting word args) ≡ counting word args

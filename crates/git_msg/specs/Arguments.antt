@@ -1,5 +1,5 @@
--- The argument lines of requests, as in gitprotocol-v2(5).
-use Rattle.std.specs.Prelude.{◌≡◌, ◌≢◌, ◌⊎◌, ℕ, ◌<◌, ◌≤◌, ◌+◌, Bool, true, false, List, [], ◌∷◌, ◌++◌, length, codes, decimal}
+-- The argument lines of requests, as in gitprotocol-v2(5), and their server options.
+use Rattle.std.specs.Prelude.{◌≡◌, ◌≢◌, ◌⊎◌, ℕ, ◌<◌, ◌≤◌, ◌+◌, Bool, true, false, Option, Some, None, List, [], ◌∷◌, ◌++◌, length, codes, decimal}
 use Rattle.git_names.specs.ObjectName.{ObjectName, IsObjectName, IsNoObjectName, IsOid, hex_of}
 use Rattle.git_names.specs.RefName.{IsRefName}
 use Rattle.git_names.specs.declared.object_format.Format.{Format}
@@ -15,7 +15,8 @@ use Rattle.git_msg.specs.declared.words.ObjectWord.{ObjectWord}
 use Rattle.git_msg.specs.declared.words.TextWord.{TextWord}
 use Rattle.git_msg.specs.declared.words.NumberWord.{NumberWord}
 use Rattle.git_msg.specs.declared.offers.Offer.{Offer}
-use Rattle.git_msg.specs.Flags.{Row, always, entry, flag_row}
+use Rattle.git_msg.specs.Capability.{is_value}
+use Rattle.git_msg.specs.Flags.{Row, always, entry, entry_of_all, flag_row}
 use Rattle.git_msg.specs.Numbers.{IsNumber}
 
 -- the table of words
@@ -29,6 +30,7 @@ row (of_text TextWord.RefPrefix) = entry (codes "ref-prefix ") LsRefs always
 row (of_text TextWord.Filter) = entry (codes "filter ") Fetch (λ offer. offer.filter)
 row (of_text TextWord.DeepenNot) = entry (codes "deepen-not ") Fetch (λ offer. offer.shallow)
 row (of_text TextWord.WantRef) = entry (codes "want-ref ") Fetch (λ offer. offer.ref_in_want)
+row (of_text TextWord.ServerOption) = entry_of_all (codes "server-option=") (λ offer. offer.server_option)
 row (of_number NumberWord.Deepen) = entry (codes "deepen ") Fetch (λ offer. offer.shallow)
 row (of_number NumberWord.DeepenSince) = entry (codes "deepen-since ") Fetch (λ offer. offer.shallow)
 
@@ -42,9 +44,9 @@ words_of Fetch =
     ∷ of_object ObjectWord.Have ∷ of_flag Flag.Done ∷ []
 words_of ObjectInfo = of_flag Flag.Size ∷ of_object ObjectWord.ObjectId ∷ []
 
--- all words
+-- all words: first that of every command
 abbrev pub words : List Word
-words = words_of LsRefs ++ (words_of Fetch ++ words_of ObjectInfo)
+words = of_text TextWord.ServerOption ∷ (words_of LsRefs ++ (words_of Fetch ++ words_of ObjectInfo))
 
 -- an argument, wherever its text lies
 pub data Arg : Type 0 where
@@ -73,9 +75,14 @@ name_of LsRefs = codes "ls-refs"
 name_of Fetch = codes "fetch"
 name_of ObjectInfo = codes "object-info"
 
--- the command that has the argument
-abbrev pub command_with : Arg → Command
-command_with arg = (row (word_of arg)).command
+-- requests of the command may have a word of this command, or of none
+abbrev pub IsFor : Command → Option Command → Type 0
+IsFor command None = Unit {0}
+IsFor command (Some own) = own ≡ command
+
+-- requests of the command may have the argument
+abbrev pub MayHave : Command → Arg → Type 0
+MayHave command arg = IsFor command (row (word_of arg)).command
 
 -- whether the feature that the argument needs is advertised
 abbrev pub is_offered : Offer → Arg → Bool
@@ -84,6 +91,10 @@ is_offered offer arg = (row (word_of arg)).offered offer
 -- the maximum length of a text that is kept
 abbrev pub most_text : ℕ
 most_text = 32000
+
+-- the maximum length of a server option: its line is a whole payload
+abbrev pub most_option : ℕ
+most_option = 65502
 
 -- the maximum of a limit on the bytes of kept texts
 abbrev pub most_limit : ℕ
@@ -94,13 +105,15 @@ abbrev pub least_text : TextWord → ℕ
 least_text TextWord.RefPrefix = 0
 least_text _ = 1
 
--- the text is allowed after the word: a reference name, or any text of such a length
+-- the text is allowed after the word: a reference name, a value of a capability, or any text of such a length
 abbrev pub IsTextOf : TextWord → List ℕ → Type 0
 IsTextOf TextWord.WantRef text = IsRefName text
+IsTextOf TextWord.ServerOption text = (is_value text ≡ true) × (length text ≤ most_option)
 IsTextOf word text = (least_text word ≤ length text) × (length text ≤ most_text)
 
 abbrev pub IsNoTextOf : TextWord → List ℕ → Type 0
 IsNoTextOf TextWord.WantRef text = ¬ IsRefName text
+IsNoTextOf TextWord.ServerOption text = (is_value text ≡ false) ⊎ (most_option < length text)
 IsNoTextOf word text = (length text < least_text word) ⊎ (most_text < length text)
 
 -- the number is allowed after the word: a depth in commits, or a time in seconds
@@ -142,7 +155,7 @@ pub record HasArgument (format : Format) (text : List ℕ) (arg : Arg) : Type 0 
 
 -- the text is this argument of the command
 abbrev pub IsArgument : Command → Format → List ℕ → Arg → Type 0
-IsArgument command format text arg = (command_with arg ≡ command) × HasArgument format text arg
+IsArgument command format text arg = ((row (word_of arg)).command ≡ Some command) × HasArgument format text arg
 
 -- the argument's value is allowed in a request whose object names have this format
 abbrev pub IsInRange : Format → Arg → Type 0
@@ -168,13 +181,13 @@ HasWrongValue format (with_number word number) = ¬ IsNumberOf word number
 
 -- the argument is allowed in a request of the command and the format
 abbrev pub IsValue : Command → Format → Arg → Type 0
-IsValue command format arg = (command_with arg ≡ command) × IsInRange format arg
+IsValue command format arg = MayHave command arg × IsInRange format arg
 
 -- the argument is refused there with this error: if it belongs to another command, its value is not judged
 abbrev pub IsValueFault : Command → Format → Arg → Kind → Type 0
 IsValueFault command format arg kind =
-    ((command_with arg ≢ command) × (kind ≡ UnknownArgument))
-    ⊎ ((command_with arg ≡ command) × HasWrongValue format arg × (kind ≡ refusal_of (word_of arg)))
+    ((¬ MayHave command arg) × (kind ≡ UnknownArgument))
+    ⊎ (MayHave command arg × HasWrongValue format arg × (kind ≡ refusal_of (word_of arg)))
 
 -- the text is an argument that a request of this command may have
 pub record ReadsAs (command : Command) (offer : Offer) (text : List ℕ) (arg : Arg) : Type 0 where
@@ -183,7 +196,7 @@ pub record ReadsAs (command : Command) (offer : Offer) (text : List ℕ) (arg : 
 
 -- the text is no argument of the command
 abbrev pub IsNoArgument : Command → List ℕ → Type 0
-IsNoArgument command text = (word : Word) (value : List ℕ) → (row word).command ≡ command → text ≢ line_of word value
+IsNoArgument command text = (word : Word) (value : List ℕ) → (row word).command ≡ Some command → text ≢ line_of word value
 
 -- the text after the word is no value that is allowed there
 abbrev pub IsNoValue : Word → Format → List ℕ → Type 0
@@ -196,7 +209,7 @@ IsNoValue (of_number word) format digits = IsNoNumberIn (IsNumberOf word) digits
 pub record IsRowFault (command : Command) (format : Format) (text : List ℕ) (kind : Kind) : Type 0 where
   pub word : Word
   pub value : List ℕ
-  pub of : (row word).command ≡ command
+  pub of : (row word).command ≡ Some command
   pub spelled : text ≡ line_of word value
   pub refused : IsNoValue word format value
   pub named : kind ≡ refusal_of word

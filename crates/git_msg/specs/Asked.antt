@@ -169,6 +169,10 @@ deepen_nots_in = texts TextWord.DeepenNot
 abbrev pub want_refs_in : List Arg → List (List ℕ)
 want_refs_in = texts TextWord.WantRef
 
+-- the server options of a request
+abbrev pub server_options_in : List Arg → List (List ℕ)
+server_options_in = texts TextWord.ServerOption
+
 -- the depth of a fetch
 abbrev pub deepen_in : List Arg → Option ℕ
 deepen_in = number NumberWord.Deepen
@@ -230,7 +234,7 @@ has_deepen_conflict q = is_given (deepen_in q) && (is_given (deepen_since_in q) 
 abbrev pub bytes_of : List Arg → ℕ
 bytes_of args = sum_by (λ arg. length (written_text arg)) args
 
--- how many bytes the texts of a request's argument lines have when they are written
+-- how many bytes the texts of a request's argument lines and server options have when they are written
 abbrev pub written_bytes : Asked → ℕ
 written_bytes asked = bytes_of (arguments_in asked)
 

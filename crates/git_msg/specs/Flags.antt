@@ -1,19 +1,22 @@
 -- Flags: the arguments that are a word alone.
-use Rattle.std.specs.Prelude.{ℕ, Bool, true, List, codes}
+use Rattle.std.specs.Prelude.{ℕ, Bool, true, List, Option, Some, None, codes}
 use Rattle.git_msg.specs.declared.arguments.Command.{Command}
 use Rattle.git_msg.specs.declared.arguments.Command.TheVariants.{LsRefs, Fetch, ObjectInfo}
 use Rattle.git_msg.specs.declared.flags.Flag.{Flag}
 use Rattle.git_msg.specs.declared.offers.Offer.{Offer}
 
--- the row of a word: its text, with a space at its end if a value follows; the command that has it; and whether an offer has
--- the feature that it needs
+-- the row of a word: its text, with a space or `=` at its end if a value follows; the command that has it, or none if requests
+-- of every command may have it; and whether an offer has the feature that it needs
 pub record Row : Type 0 where
   pub keyword : List ℕ
-  pub command : Command
+  pub command : Option Command
   pub offered : Offer → Bool
 
 abbrev pub entry : List ℕ → Command → (Offer → Bool) → Row
-entry keyword command offered = record { keyword = keyword; command = command; offered = offered }
+entry keyword command offered = record { keyword = keyword; command = Some command; offered = offered }
+
+abbrev pub entry_of_all : List ℕ → (Offer → Bool) → Row
+entry_of_all keyword offered = record { keyword = keyword; command = None; offered = offered }
 
 abbrev pub always : Offer → Bool
 always offer = true

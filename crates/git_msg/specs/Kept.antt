@@ -1,11 +1,13 @@
--- A request as it is kept, within a limit on the bytes of its argument lines.
+-- A request as it is kept, within a limit on the bytes of its argument lines and server options.
 use Rattle.std.specs.Prelude.{◌≡◌, ◌⊎◌, ℕ, ◌+◌, ◌<◌, ◌≤◌, All, List}
 use Rattle.git_names.specs.declared.object_format.Format.{Format}
 use Rattle.git_pkt.specs.declared.fault.Kind.{Kind}
 use Rattle.git_pkt.specs.declared.fault.Kind.TheVariants.{TooMuchKept, OutOfMemory}
 use Rattle.git_msg.specs.declared.arguments.Command.{Command}
-use Rattle.git_msg.specs.Arguments.{Arg, IsInRange, command_with, most_limit, stored_in, TakesMemory}
-use Rattle.git_msg.specs.Asked.{Asked, AreInOrder, bytes_of, with_one}
+use Rattle.git_msg.specs.Arguments.{Arg, IsInRange, MayHave, most_limit, stored_in, TakesMemory}
+use Rattle.git_msg.specs.declared.words.TextWord.{TextWord}
+use Rattle.git_msg.specs.declared.words.Word.{Word}
+use Rattle.git_msg.specs.Asked.{Asked, AreInOrder, bytes_of, of_word, with_one}
 
 -- the format, what is asked for, how many bytes the texts of the lines had and may have, and how many bytes are stored of their values
 pub record Kept (Q : Type 0) : Type 0 where
@@ -29,9 +31,9 @@ pub record IsSound (q : Kept (List Arg)) : Type 0 where
   pub space : q.kept ≤ q.limit
   pub in_range : q.limit ≤ most_limit
 
--- the arguments belong to the command
+-- requests of the command may have the arguments
 abbrev pub AreOf : Command → List Arg → Type 0
-AreOf command args = All (λ arg. command_with arg ≡ command) args
+AreOf command args = All (MayHave command) args
 
 -- nothing is asked for yet
 pub record IsNew {Q : Type 0} (nothing : Q) (format : Format) (limit : ℕ) (q : Kept Q) : Type 0 where
@@ -40,6 +42,13 @@ pub record IsNew {Q : Type 0} (nothing : Q) (format : Format) (limit : ℕ) (q :
   pub stored : q.stored ≡ 0
   pub format_is : q.format ≡ format
   pub limit_is : q.limit ≡ limit
+
+-- the server options alone are left, and as many bytes are counted as before
+pub record IsOptionsOf (old new : Kept (List Arg)) : Type 0 where
+  pub asked : new.asked ≡ of_word (Word.Text TextWord.ServerOption) old.asked
+  pub kept : new.kept ≡ old.kept
+  pub format : new.format ≡ old.format
+  pub limit : new.limit ≡ old.limit
 
 -- an argument was added to the others in this way, with a text of so many bytes
 pub record Adds {Q : Type 0} (one_more : Q → Arg → Q) (old : Kept Q) (arg : Arg) (long : ℕ) (new : Kept Q) : Type 0 where

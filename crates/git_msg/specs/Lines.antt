@@ -1,5 +1,6 @@
 -- The packets of a request as lines, each after the lines before it, and the reasons to refuse a packet.
 use Rattle.std.specs.Prelude.{◌≡◌, ◌≢◌, ℕ, ◌+◌, ◌<◌, ◌≤◌, Bool, true, false, Option, Some, None, List, [], ◌∷◌, ◌++◌, length, codes, sum_by, if◌then◌else◌}
+use Rattle.git_msg.specs.declared.words.TextWord.{TextWord}
 use Rattle.std.specs.List.{list_any, filter_map}
 use Rattle.std.specs.Str.{bytes_eq}
 use Rattle.git_names.specs.ObjectFormat.{name_of as format_name}
@@ -7,7 +8,7 @@ use Rattle.git_names.specs.declared.object_format.Format.{Format}
 use Rattle.git_names.specs.declared.object_format.Format.TheVariants.{Sha1, Sha256}
 use Rattle.git_pkt.specs.Packets.{Pkt, flush, delim, payload, text_of}
 use Rattle.git_pkt.specs.declared.fault.Kind.{Kind}
-use Rattle.git_pkt.specs.declared.fault.Kind.TheVariants.{BadCapability, UnknownCommand, TwoCommands, NoCommand, NotAdvertised, WrongFormat}
+use Rattle.git_pkt.specs.declared.fault.Kind.TheVariants.{BadCapability, BadLine, UnknownCommand, TwoCommands, NoCommand, NotAdvertised, WrongFormat}
 use Rattle.git_pkt.specs.declared.fault.Kind.TheVariants.{TooMuchKept, UnexpectedPacket, RemoteError, DeepenConflict, NoWants, NoSize}
 use Rattle.git_msg.specs.declared.offers.Offer.{Offer}
 use Rattle.git_msg.specs.declared.arguments.Command.{Command}
@@ -16,17 +17,17 @@ use Rattle.git_msg.specs.declared.capability_key.Key.TheVariants.{CommandKey, Ag
 use Rattle.git_msg.specs.Texts.{IsErrorText, IsNoneOf}
 use Rattle.git_msg.specs.Capability.{IsCapability, IsNoCapability}
 use Rattle.git_msg.specs.Advertisement.{takes_command}
-use Rattle.git_msg.specs.Arguments.{Arg, name_of, ReadsAs, IsArgumentFault}
+use Rattle.git_msg.specs.Arguments.{Arg, with_text, name_of, most_option, written_text, ReadsAs, IsArgumentFault}
 use Rattle.git_msg.specs.declared.flags.Flag.{Flag}
 use Rattle.git_msg.specs.Asked.{Asked, ls_refs, fetch, object_info, HasWants, asked_by, flag_among, has_deepen_conflict}
 use Rattle.git_msg.specs.Checks.{Check, check, unless, Refuses, Passes}
 
 -- a packet of a request that is not refused: the capability lines, the delimiter, and the arguments with the
--- lengths of their texts
+-- lengths of their texts; nothing is kept of a line that names the agent, or no server option
 pub data Line : Type 0 where
   command : Command → Line
-  agent : Line
-  server_option : Line
+  unkept : Line
+  server_option : List ℕ → Line
   object_format : Line
   delimiter : Line
   argument : Arg → ℕ → Line
@@ -39,7 +40,14 @@ abbrev pub argument_in : Line → Option Arg
 argument_in (argument arg long) = Some arg
 argument_in _ = None
 
+-- a server option, as it is kept
+abbrev pub option_in : Line → Option Arg
+option_in (server_option option) = Some (with_text TextWord.ServerOption option)
+option_in _ = None
+
+-- how many bytes are counted of a line that is kept: those of its text
 abbrev pub long_of : Line → ℕ
+long_of (server_option option) = length (written_text (with_text TextWord.ServerOption option))
 long_of (argument arg long) = long
 long_of _ = 0
 
@@ -63,7 +71,15 @@ commands_of = filter_map command_in
 abbrev pub arguments_of : List Line → List Arg
 arguments_of = filter_map argument_in
 
--- how many bytes the texts of the argument lines have
+-- the server options of the lines
+abbrev pub options_of : List Line → List Arg
+options_of = filter_map option_in
+
+-- what is kept of the lines: the server options, and the arguments
+abbrev pub kept_arguments : List Line → List Arg
+kept_arguments lines = options_of lines ++ arguments_of lines
+
+-- how many bytes the texts of the lines have that are kept
 abbrev pub kept_in : List Line → ℕ
 kept_in = sum_by long_of
 
@@ -114,6 +130,15 @@ NamesTaken offer value = (c : Command) → value ≡ Some (name_of c) → takes_
 abbrev pub NamesUntaken : Offer → Option (List ℕ) → Type 0
 NamesUntaken offer value = (c : Command) × (value ≡ Some (name_of c)) × (takes_command offer c ≡ false)
 
+-- a server option is no longer than a line can be
+abbrev pub IsOption : Option (List ℕ) → Type 0
+IsOption None = Unit {0}
+IsOption (Some option) = length option ≤ most_option
+
+abbrev pub IsNoOption : Option (List ℕ) → Type 0
+IsNoOption None = ⊥
+IsNoOption (Some option) = most_option < length option
+
 -- the checks of a capability line, by its key; `first` means that no command line came before it
 abbrev pub key_checks : Offer → Bool → Key → Option (List ℕ) → List Check
 key_checks offer first CommandKey value =
@@ -121,7 +146,7 @@ key_checks offer first CommandKey value =
     ∷ check (NamesTaken offer value) (NamesUntaken offer value) NotAdvertised ∷ []
 key_checks offer first AgentKey value = []
 key_checks offer first ServerOptionKey value =
-    check (offer.server_option ≡ true) (offer.server_option ≡ false) NotAdvertised ∷ []
+    check (offer.server_option ≡ true) (offer.server_option ≡ false) NotAdvertised ∷ check (IsOption value) (IsNoOption value) BadLine ∷ []
 key_checks offer first ObjectFormatKey value =
     check (value ≡ Some (format_name offer.format)) (value ≢ Some (format_name offer.format)) WrongFormat ∷ []
 key_checks offer first OtherKey value = check ⊥ (Unit {0}) NotAdvertised ∷ []
@@ -142,8 +167,9 @@ capability_checks offer first text =
 -- the line that a capability makes
 abbrev pub IsLineOf : Key → Option (List ℕ) → Line → Type 0
 IsLineOf CommandKey value (command c) = value ≡ Some (name_of c)
-IsLineOf AgentKey value agent = Unit {0}
-IsLineOf ServerOptionKey value server_option = Unit {0}
+IsLineOf AgentKey value unkept = Unit {0}
+IsLineOf ServerOptionKey None unkept = Unit {0}
+IsLineOf ServerOptionKey (Some value) (server_option option) = value ≡ option
 IsLineOf ObjectFormatKey value object_format = Unit {0}
 IsLineOf _ value _ = ⊥
 
@@ -155,6 +181,25 @@ pub record IsCapabilityLine (offer : Offer) (first : Bool) (text : List ℕ) (li
   pub has_key : HasKey text key value
   pub allowed : Passes (key_checks offer first key value)
   pub line_is : IsLineOf key value line
+
+-- the line can be kept within the limit, beside so many bytes
+abbrev pub FitsLimit : ℕ → ℕ → Line → Type 0
+FitsLimit limit kept (server_option option) = kept + long_of (server_option option) ≤ limit
+FitsLimit limit kept line = Unit {0}
+
+abbrev pub ExceedsLimit : ℕ → ℕ → Line → Type 0
+ExceedsLimit limit kept (server_option option) = limit < kept + long_of (server_option option)
+ExceedsLimit limit kept line = ⊥
+
+-- the check of the limit: the line that the text is can be kept within it
+abbrev pub limit_check : Offer → ℕ → Bool → ℕ → List ℕ → Check
+limit_check offer limit first kept text =
+    check ((line : Line) → IsCapabilityLine offer first text line → FitsLimit limit kept line)
+    ((line : Line) × IsCapabilityLine offer first text line × ExceedsLimit limit kept line) TooMuchKept
+
+-- the checks of a text of the capability part, and then the limit
+abbrev pub noting_checks : Offer → ℕ → Bool → ℕ → List ℕ → List Check
+noting_checks offer limit first kept text = capability_checks offer first text ++ limit_check offer limit first kept text ∷ []
 
 -- if no line names a format, SHA-1 is meant
 abbrev pub IsFormatMeant : Format → Bool → Type 0
@@ -211,8 +256,8 @@ end_checks (object_info q) = check (flag_among q Flag.Size ≡ true) (flag_among
 
 abbrev pub at_end : List Line → Check
 at_end lines = record {
-  refuses = λ kind. (c : Command) × (commands_of lines ≡ c ∷ []) × Refuses (end_checks (asked_by c (arguments_of lines))) kind;
-  passes = (c : Command) × (commands_of lines ≡ c ∷ []) × Passes (end_checks (asked_by c (arguments_of lines)));
+  refuses = λ kind. (c : Command) × (commands_of lines ≡ c ∷ []) × Refuses (end_checks (asked_by c (kept_arguments lines))) kind;
+  passes = (c : Command) × (commands_of lines ≡ c ∷ []) × Passes (end_checks (asked_by c (kept_arguments lines)));
 }
 
 -- the checks of the flush after these lines: the end of the capability part was judged at the delimiter, if there was one
@@ -224,7 +269,8 @@ abbrev pub flush_checks : Offer → List Line → List Check
 flush_checks offer lines = flush_checks_in (has_delimiter lines) offer lines
 
 abbrev pub IsLineIn : Bool → Offer → ℕ → List Line → Pkt → Line → Type 0
-IsLineIn false offer limit before (payload bytes) line = IsCapabilityLine offer (is_none (commands_of before)) (text_of bytes) line
+IsLineIn false offer limit before (payload bytes) line =
+    IsCapabilityLine offer (is_none (commands_of before)) (text_of bytes) line × FitsLimit limit (kept_in before) line
 IsLineIn false offer limit before delim delimiter = Passes (part_checks offer (commands_of before) (has_format before))
 IsLineIn true offer limit before (payload bytes) (argument arg long) = IsArgumentLine offer limit before (text_of bytes) arg long
 IsLineIn _ offer limit before _ _ = ⊥
@@ -235,7 +281,7 @@ IsLine offer limit before packet line = IsLineIn (has_delimiter before) offer li
 
 abbrev pub HasFaultIn : Bool → Offer → ℕ → List Line → Pkt → Kind → Type 0
 HasFaultIn false offer limit before (payload bytes) kind =
-    Refuses (capability_checks offer (is_none (commands_of before)) (text_of bytes)) kind
+    Refuses (noting_checks offer limit (is_none (commands_of before)) (kept_in before) (text_of bytes)) kind
 HasFaultIn false offer limit before delim kind = Refuses (part_checks offer (commands_of before) (has_format before)) kind
 HasFaultIn false offer limit before flush kind = (before ≢ []) × Refuses (flush_checks_in false offer before) kind
 HasFaultIn true offer limit before (payload bytes) kind = IsArgumentRefused offer limit before (text_of bytes) kind

@@ -7,11 +7,11 @@ use Rattle.git_pkt.specs.declared.fault.Kind.{Kind}
 use Rattle.git_pkt.specs.declared.fault.Kind.TheVariants.{OutOfMemory}
 use Rattle.git_msg.specs.declared.offers.Offer.{Offer}
 use Rattle.git_msg.specs.declared.arguments.Command.{Command}
-use Rattle.git_msg.specs.Arguments.{Arg, TakesMemory}
+use Rattle.git_msg.specs.Arguments.{TakesMemory}
 use Rattle.git_msg.specs.Asked.{Asked, asked_by}
 use Rattle.git_msg.specs.Checks.{Passes}
 use Rattle.git_msg.specs.ItemsInOrder.{AreItems, StopsAt}
-use Rattle.git_msg.specs.Lines.{Line, argument, commands_of, arguments_of, kept_in, flush_checks, IsLine, HasFault}
+use Rattle.git_msg.specs.Lines.{Line, argument, server_option, commands_of, kept_arguments, kept_in, flush_checks, IsLine, HasFault}
 
 -- a packet is this line after those before it
 abbrev pub IsLineAfter : Offer → ℕ → List Line → Given → Line → Type 0
@@ -25,7 +25,7 @@ AreLines offer limit = AreItems (IsLineAfter offer limit)
 abbrev pub AreBegun : Offer → ℕ → List Given → Type 0
 AreBegun offer limit packets = (lines : List Line) × AreLines offer limit [] packets lines
 
--- the packets are one whole request, which asks for this and has so many bytes of argument texts
+-- the packets are one whole request, which asks for this and has so many bytes of texts that are kept
 pub record Asks (offer : Offer) (limit : ℕ) (packets : List Given) (asked : Asked) (kept : ℕ) : Type 0 where
   pub front : List Given
   pub last : Given
@@ -36,7 +36,7 @@ pub record Asks (offer : Offer) (limit : ℕ) (packets : List Given) (asked : As
   pub taken : AreLines offer limit [] front lines
   pub once : commands_of lines ≡ command ∷ []
   pub checks : Passes (flush_checks offer lines)
-  pub asked_is : asked ≡ asked_by command (arguments_of lines)
+  pub asked_is : asked ≡ asked_by command (kept_arguments lines)
   pub kept_is : kept ≡ kept_in lines
 
 -- a packet at this offset is refused by this name after the lines
@@ -48,17 +48,22 @@ pub record IsRefusedAfter (offer : Offer) (limit : ℕ) (kind : Kind) (offset : 
 abbrev pub FirstFault : Offer → ℕ → List Given → Kind → ℕ → Type 0
 FirstFault offer limit packets kind offset = StopsAt (IsLineAfter offer limit) (IsRefusedAfter offer limit kind offset) packets
 
--- memory ran out while an argument was kept, in a packet that nothing refuses
+-- the line has a value that memory is taken for
+abbrev pub NeedsMemory : Line → Type 0
+NeedsMemory (server_option option) = Unit {0}
+NeedsMemory (argument arg long) = TakesMemory arg
+NeedsMemory line = ⊥
+
+-- memory ran out while a line was kept, in a packet that nothing refuses
 pub record WantsMemory (offer : Offer) (limit : ℕ) (packets : List Given) (kind : Kind) (offset : ℕ) : Type 0 where
   pub front : List Given
   pub last : Given
   pub lines : List Line
-  pub arg : Arg
-  pub long : ℕ
+  pub line : Line
   pub whole : packets ≡ front ++ last ∷ []
   pub taken : AreLines offer limit [] front lines
-  pub is_line : IsLine offer limit lines last.packet (argument arg long)
-  pub takes_memory : TakesMemory arg
+  pub is_line : IsLine offer limit lines last.packet line
+  pub needs_memory : NeedsMemory line
   pub name : kind ≡ OutOfMemory
   pub at : offset ≡ last.offset
 

@@ -163,7 +163,7 @@ pub(crate) fn check_value(
     ensures ok { OnOk result (IsValue command format (shown argument.now)) }
     ensures err { IfErr result (IsValueFault command format (shown argument.now)) }
 {
-    if word_at(argument).command() != command {
+    if !word_at(argument).is_for(command) {
         return Err(Kind::UnknownArgument);
     }
     match argument {

@@ -44,7 +44,8 @@ fn is_key(text: &[u8]) -> bool
     !text.is_empty() && text.iter().all(|byte| is_key_byte(*byte))
 }
 
-fn is_value(text: &[u8]) -> bool
+/// Whether each byte may stand in a value.
+pub(crate) fn is_value(text: &[u8]) -> bool
     ensures value { result ≡ is_value_text text.now }
 {
     text.iter().all(|byte| *byte != 0 && *byte != b'\n')

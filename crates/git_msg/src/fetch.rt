@@ -1,5 +1,5 @@
 //! Requests for objects, `fetch` of gitprotocol-v2(5), as they are kept.
-ghost use Rattle.std.specs.Prelude.{◌≡◌, ◌+◌, ◌≤◌, ◌^◌, ◌<◌, length, MatchBool, OnOk, OnErr, IfErr, IfSome, [], slice_get, OnSome};
+ghost use Rattle.std.specs.Prelude.{◌≡◌, ◌+◌, ◌≤◌, ◌^◌, ◌<◌, length, OnOk, OnErr, IfErr, IfSome, [], slice_get, OnSome};
 ghost use Rattle.std.specs.Option.{option_copied};
 ghost use Rattle.git_names.specs.RefName.{IsRefName};
 ghost use Rattle.git_msg.specs.Arguments.{shown, written_text};
@@ -36,7 +36,7 @@ impl<A: Allocator + Copy> Model for Fetch<A> {
 }
 
 impl<A: Allocator + Copy> Fetch<A> {
-    ghost use Rattle.git_msg.specs.Asked.{HasWants, flag_among, has_deepen_conflict, wants_in, haves_in, shallows_in, filters_in, done_in};
+    ghost use Rattle.git_msg.specs.Asked.{flag_among, wants_in, haves_in, shallows_in, filters_in, done_in};
     ghost use Rattle.git_msg.specs.Asked.{deepen_in, deepen_since_in, deepen_nots_in, want_refs_in};
     ghost use Rattle.git_msg.specs.Kept.{AreOf, IsNew};
 
@@ -154,28 +154,28 @@ impl<A: Allocator + Copy> Fetch<A> {
         self.arguments.text(TextWord::Filter, i)
     }
 
-    /// Whether it wants an object or a reference, or negotiates alone.
-    pub(crate) fn has_wants(&self) -> bool
-        ensures { MatchBool result (HasWants self.now.asked) (¬ HasWants self.now.asked) }
-    {
-        !self.wants().is_empty()
-            || self.want_ref(0).is_some()
-            || (self.wait_for_done() && !self.done())
-    }
-
-    /// Whether the history is cut off both by a depth and by something else, which exclude each other.
-    pub(crate) fn has_deepen_conflict(&self) -> bool
-        ensures { result ≡ has_deepen_conflict self.now.asked }
-    {
-        self.deepen().is_some() && (self.deepen_since().is_some() || self.deepen_not(0).is_some())
-    }
-
     pub(crate) fn new(alloc: A, format: Format, limits: Limits) -> Fetch<A>
         ensures { IsNew [] format limits.args result }
     {
         Fetch {
             arguments: KeptArguments::new(alloc, format, limits),
         }
+    }
+
+    /// A request that has these arguments.
+    pub(crate) fn of(arguments: KeptArguments<A>) -> Fetch<A>
+        requires { AreOf Command.Fetch arguments.asked }
+        ensures { result ≡ arguments }
+    {
+        Fetch { arguments }
+    }
+
+    /// Its arguments, without the request around them.
+    pub(crate) fn into_arguments(self) -> KeptArguments<A>
+        ensures { result ≡ self }
+    {
+        let Fetch { arguments } = self;
+        arguments
     }
 
     /// Its arguments.

@@ -1,5 +1,5 @@
 //! Flags: the arguments that are a word alone, and the set of them that a request has.
-ghost use Rattle.std.specs.Prelude.{◌≡◌, ◌<◌, ◌≤◌, ◌==◌, ◌||◌, ℕ, false, get_or, length};
+ghost use Rattle.std.specs.Prelude.{◌≡◌, ◌<◌, ◌≤◌, ◌==◌, ◌||◌, ℕ, Some, false, get_or, length};
 ghost use Rattle.git_msg.specs.Flags.{flag_row};
 ghost use Rattle.git_msg.specs.Machine.ArgumentLists.{is_held, place_of};
 
@@ -59,7 +59,7 @@ impl Flag {
 
     /// The command that has the flag.
     pub fn command(self) -> Command
-        ensures { result ≡ (flag_row self).command }
+        ensures { Some result ≡ (flag_row self).command }
     {
         match self {
             Flag::Peel | Flag::Symrefs | Flag::Unborn => Command::LsRefs,

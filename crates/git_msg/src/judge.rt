@@ -12,6 +12,7 @@ use crate::capabilities::read_capability;
 use crate::capability_key::{Key, read_key};
 use crate::offers::Offer;
 use crate::texts::{is_error, is_word};
+use crate::words::MOST_OPTION;
 use git_names::Steps;
 use git_pkt::Kind;
 
@@ -20,20 +21,21 @@ const LONGEST_KEY: usize = 13;
 
 /// The meaning of a line of the capability part.
 #[derive(Clone, Copy, Debug)]
-pub(crate) enum Noted {
+pub(crate) enum Noted<'a> {
     Command(Command),
-    Agent,
-    ServerOption,
+    ServerOption(&'a [u8]),
     ObjectFormat,
+    // Nothing of it is kept: it names the agent, or no server option.
+    Unkept,
 }
 
 /// Judges the text of a line of the capability part; `first` means that no command line came before it.
-pub(crate) fn judge_capability(
+pub(crate) fn judge_capability<'a>(
     offer: &Offer,
     first: bool,
-    text: &[u8],
+    text: &'a [u8],
     steps: &mut Steps,
-) -> Result<Noted, Kind>
+) -> Result<Noted<'a>, Kind>
     ensures line { MatchResult result (λ noted. IsCapabilityLine offer.now first text.now (line_of noted))
         (Refuses (capability_checks offer.now first text.now)) }
     ensures cost { TakesAtMost (13 * (length text.now + 1)) steps.old steps.new }
@@ -48,7 +50,12 @@ pub(crate) fn judge_capability(
     judge_key(offer, first, key, capability.value)
 }
 
-fn judge_key(offer: &Offer, first: bool, key: Key, value: Option<&[u8]>) -> Result<Noted, Kind>
+fn judge_key<'a>(
+    offer: &Offer,
+    first: bool,
+    key: Key,
+    value: Option<&'a [u8]>,
+) -> Result<Noted<'a>, Kind>
     ensures line { MatchResult result
         (λ noted. Passes (key_checks offer.now first key (option_copied value.entry)) × IsLineOf key (option_copied value.entry) (line_of noted))
         (Refuses (key_checks offer.now first key (option_copied value.entry))) }
@@ -66,12 +73,16 @@ fn judge_key(offer: &Offer, first: bool, key: Key, value: Option<&[u8]>) -> Resu
             }
             Ok(Noted::Command(command))
         }
-        Key::AgentKey => Ok(Noted::Agent),
+        Key::AgentKey => Ok(Noted::Unkept),
         Key::ServerOptionKey => {
             if !offer.server_option {
                 return Err(Kind::NotAdvertised);
             }
-            Ok(Noted::ServerOption)
+            match value {
+                Some(option) if option.len() > MOST_OPTION => Err(Kind::BadLine),
+                Some(option) => Ok(Noted::ServerOption(option)),
+                None => Ok(Noted::Unkept),
+            }
         }
         Key::ObjectFormatKey => {
             if !is_value(value, offer.format.name().as_bytes()) {

@@ -1,13 +1,13 @@
 //! The arguments of a request as they are kept, within a limit on the bytes of their lines.
-ghost use Rattle.std.specs.Prelude.{◌≡◌, ◌+◌, ◌^◌, ◌≤◌, ◌<◌, length, OnOk, OnSome, OnErr, IfErr, IfSome, [], slice_get};
+ghost use Rattle.std.specs.Prelude.{◌≡◌, ◌+◌, ◌^◌, ◌≤◌, ◌<◌, length, MatchBool, MatchResult, OnOk, OnSome, OnErr, IfErr, IfSome, [], slice_get};
 ghost use Rattle.std.specs.Option.{option_copied, option_map};
-ghost use Rattle.git_pkt.specs.Packets.{longest_payload};
-ghost use Rattle.git_msg.specs.Arguments.{IsInRange, command_with, shown, with_text, written_text};
+ghost use Rattle.git_msg.specs.Arguments.{IsInRange, MayHave, shown, with_text, written_text};
+ghost use Rattle.git_msg.specs.WrittenRequest.{FitsLine};
 ghost use Rattle.git_msg.specs.declared.arguments.Command.{Command};
 ghost use Rattle.git_msg.specs.declared.words.TextWord.{TextWord};
 ghost use Rattle.git_msg.specs.Asked.{number as number_after};
 
-use crate::arguments::Argument;
+use crate::arguments::{Argument, Command};
 use crate::flags::Flag;
 use crate::limits::{Budget, Limits};
 use crate::lists::ArgumentLists;
@@ -58,8 +58,10 @@ impl<A: Allocator + Copy> Model for KeptArguments<A> {
 }
 
 impl<A: Allocator + Copy> KeptArguments<A> {
-    ghost use Rattle.git_msg.specs.Asked.{flag_among, ids, ref_prefixes_in, texts};
-    ghost use Rattle.git_msg.specs.Kept.{AreOf, IsNew, IsSound};
+    ghost use Rattle.git_msg.specs.Asked.{HasWants, asked_for, flag_among, has_deepen_conflict, ids, ref_prefixes_in, texts};
+    ghost use Rattle.git_msg.specs.Checks.{Passes, Refuses};
+    ghost use Rattle.git_msg.specs.Lines.{end_checks};
+    ghost use Rattle.git_msg.specs.Kept.{AreOf, IsNew, IsOptionsOf, IsSound};
     ghost use Rattle.git_msg.specs.Machine.HeldTexts.{texts_of};
     ghost use Rattle.git_msg.specs.Prefixes.{IsOrdered, OrdersPrefixes};
 
@@ -70,6 +72,23 @@ impl<A: Allocator + Copy> KeptArguments<A> {
             format,
             budget: Budget::new(limits),
             lists: ArgumentLists::new(alloc),
+        }
+    }
+
+    /// The server options alone. As many bytes are counted as before.
+    pub(crate) fn options_alone(self, alloc: A) -> KeptArguments<A>
+        ensures options { IsOptionsOf self result }
+        ensures own { (command : Command) → AreOf command result.asked }
+    {
+        let KeptArguments {
+            format,
+            budget,
+            lists,
+        } = self;
+        KeptArguments {
+            format,
+            budget,
+            lists: lists.options_alone(alloc),
         }
     }
 
@@ -122,6 +141,49 @@ impl<A: Allocator + Copy> KeptArguments<A> {
         self.lists.number(word)
     }
 
+    /// Judges a request of the command with these arguments, at its end.
+    pub(crate) fn check_end(&self, command: Command) -> Result<(), Kind>
+        ensures { MatchResult result (λ _. Passes (end_checks (asked_for command self.now.asked)))
+            (Refuses (end_checks (asked_for command self.now.asked))) }
+    {
+        match command {
+            Command::LsRefs => Ok(()),
+            Command::Fetch => {
+                if self.has_deepen_conflict() {
+                    return Err(Kind::DeepenConflict);
+                }
+                if !self.has_wants() {
+                    return Err(Kind::NoWants);
+                }
+                Ok(())
+            }
+            Command::ObjectInfo => {
+                if !self.has(Flag::Size) {
+                    return Err(Kind::NoSize);
+                }
+                Ok(())
+            }
+        }
+    }
+
+    // Whether a fetch wants an object or a reference, or negotiates alone.
+    fn has_wants(&self) -> bool
+        ensures { MatchBool result (HasWants self.now.asked) (¬ HasWants self.now.asked) }
+    {
+        !self.ids(ObjectWord::Want).is_empty()
+            || self.text(TextWord::WantRef, 0).is_some()
+            || (self.has(Flag::WaitForDone) && !self.has(Flag::Done))
+    }
+
+    // Whether a fetch cuts the history off both by a depth and by something else, which exclude each other.
+    fn has_deepen_conflict(&self) -> bool
+        ensures { result ≡ has_deepen_conflict self.now.asked }
+    {
+        self.number(NumberWord::Deepen).is_some()
+            && (self.number(NumberWord::DeepenSince).is_some()
+                || self.text(TextWord::DeepenNot, 0).is_some())
+    }
+
     /// The texts after each word, in the order of their lines.
     pub(crate) fn texts(&self) -> &Texts<A>
         ensures { (word : TextWord) → texts_of result.now word ≡ texts word self.now.asked }
@@ -133,7 +195,7 @@ impl<A: Allocator + Copy> KeptArguments<A> {
     pub(crate) fn argument(&self, i: usize) -> Option<Argument<'_>>
         ensures value { option_map shown result ≡ slice_get self.now.asked i }
         ensures bound { OnSome result (i + 1 < 2 ^ 64) }
-        ensures fits { IfSome result (λ argument. length (written_text (shown argument)) < longest_payload) }
+        ensures fits { IfSome result (λ argument. FitsLine (shown argument)) }
     {
         self.lists.argument(i)
     }
@@ -157,7 +219,7 @@ impl<A: Memory + Copy> KeptArguments<A> {
         requires value { IsInRange self.old.format (shown argument.now) }
         requires counted { length (written_text (shown argument.now)) ≤ text_length }
         ensures kept { OnOk result (KeepsOne self.old (shown argument.now) text_length self.new) }
-        ensures own { (command : Command) → command_with (shown argument.now) ≡ command → AreOf command self.old.asked → AreOf command self.new.asked }
+        ensures own { (command : Command) → MayHave command (shown argument.now) → AreOf command self.old.asked → AreOf command self.new.asked }
         ensures fits { OnOk result (self.old.kept + text_length ≤ self.old.limit) }
         ensures unchanged { OnErr result (self.new ≡ self.old) }
         ensures refused { IfErr result (IsUnkept self.old (shown argument.now) text_length) }

@@ -1,6 +1,6 @@
 //! Laws that follow from the definitions alone: each law is the contract of a function without parameters.
 
-ghost use Rattle.std.specs.Prelude.{◌≡◌, ◌≤◌, ◌+◌, ℕ, List, [], ◌∷◌, Option, Some, true, length, map, sum_by};
+ghost use Rattle.std.specs.Prelude.{Bool, ◌≡◌, ◌≤◌, ◌+◌, ℕ, List, [], ◌∷◌, Option, Some, true, length, map, sum_by};
 ghost use Rattle.git_names.specs.ObjectName.{ObjectName};
 ghost use Rattle.git_names.specs.RefName.{IsRefName};
 ghost use Rattle.git_names.specs.declared.object_format.Format.{Format};
@@ -17,7 +17,7 @@ ghost use Rattle.git_msg.specs.declared.response_lines.Info.{Info};
 ghost use Rattle.git_msg.specs.Advertisement.{takes_command};
 ghost use Rattle.git_msg.specs.Agents.{named_if};
 ghost use Rattle.git_msg.specs.Arguments.{Arg, IsArgumentFault, IsNameIn, ReadsAs, stored_in, written_text};
-ghost use Rattle.git_msg.specs.Asked.{Asked, AreOffered, HasValues, arguments_in, asked_by, command_asked, written_bytes};
+ghost use Rattle.git_msg.specs.Asked.{Asked, AreInOrder, AreOffered, HasValues, arguments_in, asked_by, command_asked, written_bytes};
 ghost use Rattle.git_msg.specs.Capability.{IsCapability, IsNoCapability};
 ghost use Rattle.git_msg.specs.Checks.{Passes, Refuses};
 ghost use Rattle.git_msg.specs.Machine.HeldRequest.{IsEmpty, AddsAll, Keeps, add_checks, asked_of, kept_of, stored_of};
@@ -42,7 +42,7 @@ ghost use Rattle.git_msg.specs.declared.reader.RequestReader.{RequestReader};
 ghost use Rattle.git_msg.specs.declared.streams.RequestStream.{RequestStream};
 ghost use Rattle.git_msg.specs.ResponseLines.{Wanted, IsAckFault, IsAckLine, IsBoundaryFault, IsBoundaryLine, IsWantedFault, IsWantedLine};
 ghost use Rattle.git_msg.specs.ResponseLines.{IsInfoFault, IsInfoLine, IsSize, ack_text, boundary_text, info_text, object_of, wanted_text};
-ghost use Rattle.git_msg.specs.WrittenRequest.{lines_written};
+ghost use Rattle.git_msg.specs.WrittenRequest.{lines_written, options_and_rest, options_apart};
 
 use crate::limits::Limits;
 use crate::memory::Memory;
@@ -234,6 +234,14 @@ pub fn written_request_reads_back()
         → Asks offer limit packets asked (written_bytes asked) }
 {}
 
+/// Of a request's arguments, in their order, the server options are written first, then the object format, if it is named, and
+/// then, after the delimiter, all the others.
+#[tactic(auto, using(crate::proofs::OptionsFirst::options_apart_of))]
+pub fn server_options_are_written_apart()
+    ensures { (object_format : Bool) (format : Format) (args : List Arg) → AreInOrder args
+        → options_and_rest object_format format args ≡ options_apart object_format format args }
+{}
+
 // Requests that a program builds.
 
 /// An argument that a program adds passes the checks or is refused, never both, and it has at most one error. Lack of memory is reported
@@ -246,9 +254,9 @@ pub fn add_passes_or_is_refused<A: Memory + Copy>()
         → Refuses (add_checks request arg) kind → Refuses (add_checks request arg) other → kind ≡ other }
 {}
 
-/// The default limit on the texts of a request's argument lines is 16 MiB.
-pub fn usual_limit()
-    ensures { Limits.USUAL ≡ 16777216 }
+/// The default limit on the texts of a request's argument lines and server options is 16 MiB.
+pub fn default_limit()
+    ensures { Limits.DEFAULT_ARGS ≡ 16777216 }
 {}
 
 /// If arguments were added one after the other to an empty request, it asks for what the list of them contains, and has kept

@@ -7,24 +7,24 @@ use git_pkt::Kind;
 /// How many bytes a request may keep.
 #[derive(Clone, Copy, Debug)]
 pub struct Limits {
-    /// The maximum length of the texts of its argument lines, all of them together; at most 1,073,741,824 bytes.
+    /// The maximum length of the texts of its argument lines and server options together; at most 1,073,741,824 bytes.
     pub args: u32,
     ghost in_range: { args ≤ most_limit },
 }
 
 impl Limits {
     /// The default limit: 16,777,216 bytes.
-    pub const USUAL: u32 = 16_777_216;
+    pub const DEFAULT_ARGS: u32 = 16_777_216;
 
     /// Limits that consist of the default limit alone.
     pub const DEFAULT: Limits = Limits {
-        args: Limits::USUAL,
+        args: Limits::DEFAULT_ARGS,
     };
 }
 
-const _: () = prove!(Limits::DEFAULT.args == Limits::USUAL);
+const _: () = prove!(Limits::DEFAULT.args == Limits::DEFAULT_ARGS);
 
-/// How many bytes the texts of a request's argument lines may have, and how many they have so far.
+/// How many bytes the texts of a request's argument lines and server options may have, and how many they have so far.
 #[derive(Clone, Copy, Debug)]
 pub(crate) struct Budget {
     limit: u32,

@@ -2,7 +2,7 @@
 ghost use Rattle.std.specs.Prelude.{◌≡◌, ◌+◌, ◌<◌, false, ◌≤◌, ◌^◌, [], IfErr, OnErr, OnOk, length, slice_get};
 ghost use Rattle.std.specs.Option.{option_map};
 ghost use Rattle.git_msg.specs.Arguments.{TakesMemory, shown, stored_in};
-ghost use Rattle.git_msg.specs.Asked.{ids, is_word, flag_among, number as number_after, texts, with_one};
+ghost use Rattle.git_msg.specs.Asked.{ids, is_word, flag_among, number as number_after, of_word, texts, with_one};
 ghost use Rattle.git_msg.specs.Memory.{HasRefused};
 
 use crate::arguments::Argument;
@@ -40,6 +40,25 @@ impl<A: Allocator + Copy> ArgumentLists<A> {
             flags: FlagSet::new(),
             objects: Lists::new(alloc),
             texts: Texts::new(alloc),
+            numbers: [None; NUMBERS],
+        }
+    }
+
+    /// The server options alone.
+    pub(crate) fn options_alone(self, alloc: A) -> ArgumentLists<A>
+        ensures options { held result ≡ of_word (Word.Text TextWord.ServerOption) (held self) }
+        ensures stored { stored result ≤ stored self }
+    {
+        let ArgumentLists {
+            flags: _flags,
+            objects: _objects,
+            texts,
+            numbers: _numbers,
+        } = self;
+        ArgumentLists {
+            flags: FlagSet::new(),
+            objects: Lists::new(alloc),
+            texts: texts.options_alone(alloc),
             numbers: [None; NUMBERS],
         }
     }

@@ -94,6 +94,22 @@ impl<A: Allocator + Copy> LsRefs<A> {
         }
     }
 
+    /// A request that has these arguments.
+    pub(crate) fn of(arguments: KeptArguments<A>) -> LsRefs<A>
+        requires { AreOf Command.LsRefs arguments.asked }
+        ensures { result ≡ arguments }
+    {
+        LsRefs { arguments }
+    }
+
+    /// Its arguments, without the request around them.
+    pub(crate) fn into_arguments(self) -> KeptArguments<A>
+        ensures { result ≡ self }
+    {
+        let LsRefs { arguments } = self;
+        arguments
+    }
+
     /// Its arguments.
     pub fn arguments(&self) -> &KeptArguments<A>
         ensures value { result.now ≡ self.now }

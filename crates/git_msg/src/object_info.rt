@@ -65,6 +65,22 @@ impl<A: Allocator + Copy> ObjectInfo<A> {
         }
     }
 
+    /// A request that has these arguments.
+    pub(crate) fn of(arguments: KeptArguments<A>) -> ObjectInfo<A>
+        requires { AreOf Command.ObjectInfo arguments.asked }
+        ensures { result ≡ arguments }
+    {
+        ObjectInfo { arguments }
+    }
+
+    /// Its arguments, without the request around them.
+    pub(crate) fn into_arguments(self) -> KeptArguments<A>
+        ensures { result ≡ self }
+    {
+        let ObjectInfo { arguments } = self;
+        arguments
+    }
+
     /// Its arguments.
     pub fn arguments(&self) -> &KeptArguments<A>
         ensures value { result.now ≡ self.now }

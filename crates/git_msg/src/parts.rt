@@ -21,7 +21,7 @@ use std::alloc::Allocator;
 use std::cmp::Ordering;
 
 /// How many lists `Lists` has: one for each word before an object name, or before a text.
-pub(crate) const LISTS: usize = 4;
+pub(crate) const LISTS: usize = 5;
 
 /// Lists, each at its place. They are fields: an array of them would have a size that depends on the allocator.
 #[derive(Drop)]
@@ -30,6 +30,7 @@ pub(crate) struct Lists<X: Copy, A: Allocator + Copy> {
     second: Vec<X, A>,
     third: Vec<X, A>,
     fourth: Vec<X, A>,
+    fifth: Vec<X, A>,
 }
 
 impl<X: Copy, A: Allocator + Copy> Lists<X, A> {
@@ -43,6 +44,29 @@ impl<X: Copy, A: Allocator + Copy> Lists<X, A> {
             second: Vec::new(alloc),
             third: Vec::new(alloc),
             fourth: Vec::new(alloc),
+            fifth: Vec::new(alloc),
+        }
+    }
+
+    /// The last list alone, beside empty ones.
+    fn fifth_alone(self, alloc: A) -> Lists<X, A>
+        ensures fifth { items_at result 4 ≡ items_at self 4 }
+        ensures others { (place : ℕ) → (place == 4) ≡ false → items_at result place ≡ [] }
+        ensures counted { items_in result ≤ items_in self }
+    {
+        let Lists {
+            first: _first,
+            second: _second,
+            third: _third,
+            fourth: _fourth,
+            fifth,
+        } = self;
+        Lists {
+            first: Vec::new(alloc),
+            second: Vec::new(alloc),
+            third: Vec::new(alloc),
+            fourth: Vec::new(alloc),
+            fifth,
         }
     }
 
@@ -55,7 +79,8 @@ impl<X: Copy, A: Allocator + Copy> Lists<X, A> {
             0 => &self.first,
             1 => &self.second,
             2 => &self.third,
-            _ => &self.fourth,
+            3 => &self.fourth,
+            _ => &self.fifth,
         }
     }
 }
@@ -77,7 +102,8 @@ impl<X: Copy, A: Memory + Copy> Lists<X, A> {
             0 => keep_item(&mut self.first, item),
             1 => keep_item(&mut self.second, item),
             2 => keep_item(&mut self.third, item),
-            _ => keep_item(&mut self.fourth, item),
+            3 => keep_item(&mut self.fourth, item),
+            _ => keep_item(&mut self.fifth, item),
         }
     }
 }
@@ -101,6 +127,19 @@ impl<A: Allocator + Copy> Texts<A> {
         Texts {
             bytes: Vec::new(alloc),
             ends: Lists::new(alloc),
+        }
+    }
+
+    /// The server options alone. The bytes of the other texts stay.
+    pub(crate) fn options_alone(self, alloc: A) -> Texts<A>
+        ensures options { texts_of result TextWord.ServerOption ≡ texts_of self TextWord.ServerOption }
+        ensures others { (word : TextWord) → (text_place word == 4) ≡ false → texts_of result word ≡ [] }
+        ensures stored { texts_stored result ≤ texts_stored self }
+    {
+        let Texts { bytes, ends } = self;
+        Texts {
+            bytes,
+            ends: ends.fifth_alone(alloc),
         }
     }
 

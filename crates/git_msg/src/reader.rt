@@ -2,12 +2,13 @@
 ghost use Rattle.git_msg.specs.Machine.HeldRequest.{IsBounded};
 
 use crate::admits::Admits;
-use crate::arguments::Command;
+use crate::arguments::{Argument, Command};
 use crate::judge::{Noted, judge_capability, read_text};
 use crate::limits::Limits;
 use crate::memory::Memory;
 use crate::offers::Offer;
 use crate::requests::Request;
+use crate::words::TextWord;
 use git_names::{Format, Steps};
 use git_pkt::{Fault, Kind, Packet, text};
 use std::alloc::Allocator;
@@ -74,15 +75,10 @@ impl<A: Allocator + Copy> Drop for RequestReader<A> {
 }
 
 impl<A: Allocator + Copy> RequestReader<A> {
-    ghost use Rattle.std.specs.Prelude.{◌≡◌, ◌≢◌, ◌+◌, ◌*◌, [], Option, OnOk, OnErr, IfErr, MatchResult, length};
-    ghost use Rattle.git_names.specs.Steps.{TakesAtMost};
-    ghost use Rattle.git_pkt.specs.Packets.{body_of, seen};
-    ghost use Rattle.git_msg.specs.Arguments.{Arg};
-    ghost use Rattle.git_msg.specs.Checks.{Refuses};
+    ghost use Rattle.std.specs.Prelude.{◌≡◌, [], MatchResult};
     ghost use Rattle.git_msg.specs.Machine.HeldRequest.{IsEmpty};
-    ghost use Rattle.git_msg.specs.Lines.{capability_checks};
     ghost use Rattle.git_msg.specs.Machine.RequestReader.{InCapabilities, Takes, offer_of, limit_in, kept_so_far, fault_of};
-    ghost use Rattle.git_msg.specs.Machine.RequestReaderSteps.{Notes, IsExpected, IsUndue, StepsOn, is_first};
+    ghost use Rattle.git_msg.specs.Machine.RequestReaderSteps.{Begins, IsExpected, IsUndue};
 
     /// A reader at the beginning of a request. It takes memory from `alloc` when an argument with a text or an object
     /// name is kept.
@@ -104,54 +100,6 @@ impl<A: Allocator + Copy> RequestReader<A> {
         }
     }
 
-    fn take_capability(&mut self, packet: Packet<'_>, steps: &mut Steps) -> Result<Taken, Kind>
-        requires { self.old.part ≡ Part.Capabilities }
-        ensures goes_on { (barred : Arg → Option Kind) → StepsOn barred self.old (seen packet.entry) result self.new }
-        ensures cost { TakesAtMost (42 * (length (body_of (seen packet.entry)) + 1)) steps.old steps.new }
-        ensures own { IfErr result (λ kind. kind ≢ Kind.OutOfMemory) }
-    {
-        match packet {
-            Packet::Payload(payload) => {
-                self.note(text(payload), steps)?;
-                Ok(Taken::More)
-            }
-            Packet::Delim => {
-                let command = self.command_expected()?;
-                self.request = self.empty_request(command);
-                self.part = Part::Arguments;
-                Ok(Taken::More)
-            }
-            Packet::Flush => {
-                if !self.begun {
-                    return Ok(Taken::Stop);
-                }
-                let command = self.command_expected()?;
-                let request = self.empty_request(command);
-                request.check_end()?;
-                self.request = request;
-                Ok(Taken::Whole)
-            }
-            Packet::RespEnd => Err(Kind::UnexpectedPacket),
-        }
-    }
-
-    // Takes a line of the capability part.
-    fn note(&mut self, text: &[u8], steps: &mut Steps) -> Result<(), Kind>
-        ensures cost { TakesAtMost (13 * (length text.now + 1)) steps.old steps.new }
-        ensures ok { OnOk result (Notes self.old text.now self.new) }
-        ensures unchanged { OnErr result (self.new ≡ self.old) }
-        ensures err { IfErr result (Refuses (capability_checks self.old.offer (is_first self.old) text.now)) }
-    {
-        match judge_capability(&self.offer, self.command.is_none(), text, steps)? {
-            Noted::Command(command) => self.command = Some(command),
-            Noted::ObjectFormat => self.has_format = true,
-            Noted::Agent => {}
-            Noted::ServerOption => {}
-        }
-        self.begun = true;
-        Ok(())
-    }
-
     // The command, which the capability part must have at its end.
     fn command_expected(&self) -> Result<Command, Kind>
         ensures command { MatchResult result (IsExpected self.now) (IsUndue self.now) }
@@ -170,15 +118,25 @@ impl<A: Allocator + Copy> RequestReader<A> {
         }
     }
 
-    fn empty_request(&self, command: Command) -> Request<A>
-        ensures { IsEmpty command self.now.offer.format (limit_in self.now) result }
+    // A request for nothing, under the same limit.
+    fn empty_request(&self) -> Request<A>
+        ensures { IsEmpty Command.LsRefs self.now.offer.format (limit_in self.now) result }
     {
         Request::new(
             self.alloc,
-            command,
+            Command::LsRefs,
             self.offer.format,
             self.request.limits(),
         )
+    }
+
+    // Makes the request one of the command that the capability part names.
+    fn begin(&mut self, command: Command)
+        ensures { Begins command self.old self.new }
+    {
+        let next = self.empty_request();
+        let options = mem::replace(&mut self.request, next);
+        self.request = options.for_command(self.alloc, command);
     }
 
     // Hands the request out. The next packet begins another.
@@ -193,23 +151,25 @@ impl<A: Allocator + Copy> RequestReader<A> {
         self.begun = false;
         self.command = None;
         self.has_format = false;
-        let next = self.empty_request(Command::LsRefs);
+        let next = self.empty_request();
         mem::replace(&mut self.request, next)
     }
 }
 
 impl<A: Memory + Copy> RequestReader<A> {
-    ghost use Rattle.std.specs.Prelude.{◌≡◌, ◌+◌, ◌*◌, None, IfErr, length};
+    ghost use Rattle.std.specs.Prelude.{◌≡◌, ◌+◌, ◌*◌, None, Option, IfErr, OnErr, OnOk, length};
     ghost use Rattle.git_names.specs.Steps.{TakesAtMost};
-    ghost use Rattle.git_pkt.specs.Packets.{body_of, payload, seen};
+    ghost use Rattle.git_pkt.specs.Packets.{body_of, flush, payload, seen};
+    ghost use Rattle.git_msg.specs.Arguments.{Arg};
     ghost use Rattle.git_msg.specs.Machine.RequestReader.{Brings, GotNeedsRefusal, IsCovered, fault_of, limit_in};
-    ghost use Rattle.git_msg.specs.Machine.RequestReaderSteps.{StepsOn};
+    ghost use Rattle.git_msg.specs.Machine.RequestReaderSteps.{IsUnnoted, Notes, StepsOn};
     ghost use Rattle.git_msg.specs.Memory.{NeedsRefusal};
 
-    /// Takes the next packet, which is at `offset`, and keeps its argument, if it is one and nothing refuses it. The request then
-    /// counts the bytes that the argument's text had on the wire. An argument is refused in this order: for its text; by
+    /// Takes the next packet, which is at `offset`, and keeps its argument or server option, if it is one and nothing refuses it.
+    /// The request then counts the bytes that its text had on the wire. An argument is refused in this order: for its text; by
     /// `admits`; as `TooMuchKept`, if so many more bytes would exceed the limit; and as `OutOfMemory`, if there is no memory for
-    /// its value. What is refused is not kept, and ends the reading: from then on each call returns that fault.
+    /// its value. A server option is refused in the same order, but not by `admits`. What is refused is not kept, and ends the
+    /// reading: from then on each call returns that fault.
     pub fn take<B: Admits>(
         &mut self,
         admits: &B,
@@ -253,6 +213,67 @@ impl<A: Memory + Copy> RequestReader<A> {
             Part::Arguments => self.take_argument(admits, packet, steps),
             _ => self.take_capability(packet, steps),
         }
+    }
+
+    fn take_capability(&mut self, packet: Packet<'_>, steps: &mut Steps) -> Result<Taken, Kind>
+        requires { self.old.part ≡ Part.Capabilities }
+        ensures goes_on { (barred : Arg → Option Kind) → StepsOn barred self.old (seen packet.entry) result self.new }
+        ensures cost { TakesAtMost (42 * (length (body_of (seen packet.entry)) + 1)) steps.old steps.new }
+        ensures memory { IfErr result (NeedsRefusal A.refuses (limit_in self.old)) }
+    {
+        match packet {
+            Packet::Payload(payload) => {
+                self.note(text(payload), steps)?;
+                Ok(Taken::More)
+            }
+            Packet::Delim => {
+                let command = self.command_expected()?;
+                self.begin(command);
+                self.part = Part::Arguments;
+                Ok(Taken::More)
+            }
+            Packet::Flush => self.take_early_flush(),
+            Packet::RespEnd => Err(Kind::UnexpectedPacket),
+        }
+    }
+
+    // Takes a flush with no delimiter before it.
+    fn take_early_flush(&mut self) -> Result<Taken, Kind>
+        requires { self.old.part ≡ Part.Capabilities }
+        ensures goes_on { (barred : Arg → Option Kind) → StepsOn barred self.old flush result self.new }
+        ensures memory { IfErr result (NeedsRefusal A.refuses (limit_in self.old)) }
+    {
+        if !self.begun {
+            return Ok(Taken::Stop);
+        }
+        let command = self.command_expected()?;
+        self.request.arguments().check_end(command)?;
+        self.begin(command);
+        Ok(Taken::Whole)
+    }
+
+    // Takes a line of the capability part.
+    fn note(&mut self, text: &[u8], steps: &mut Steps) -> Result<(), Kind>
+        ensures cost { TakesAtMost (14 * (length text.now + 1)) steps.old steps.new }
+        ensures ok { OnOk result (Notes self.old text.now self.new) }
+        ensures unchanged { OnErr result (self.new ≡ self.old) }
+        ensures err { IfErr result (IsUnnoted self.old text.now) }
+        ensures memory { IfErr result (NeedsRefusal A.refuses (limit_in self.old)) }
+    {
+        match judge_capability(&self.offer, self.command.is_none(), text, steps)? {
+            Noted::Command(command) => self.command = Some(command),
+            Noted::ObjectFormat => self.has_format = true,
+            Noted::Unkept => {}
+            Noted::ServerOption(option) => {
+                // The option, with its end, has fewer bytes than its line.
+                let long = text.len();
+                steps.tick(long + 1);
+                self.request
+                    .push(&Argument::Text(TextWord::ServerOption, option), long)?;
+            }
+        }
+        self.begun = true;
+        Ok(())
     }
 
     fn take_argument<B: Admits>(

@@ -1,7 +1,7 @@
 //! Requests as they are kept.
 ghost use Rattle.std.specs.Prelude.{◌≡◌, ◌+◌, ◌^◌, ◌≤◌, ◌<◌, decimal, length, OnOk, OnSome, OnErr, IfErr, IfSome, MatchResult, slice_get};
 ghost use Rattle.std.specs.Option.{option_map};
-ghost use Rattle.git_pkt.specs.Packets.{longest_payload};
+ghost use Rattle.git_msg.specs.WrittenRequest.{FitsLine};
 ghost use Rattle.git_msg.specs.Arguments.{shown, written_text};
 
 use crate::arguments::{Argument, Command, check_value, word_at};
@@ -29,11 +29,13 @@ pub enum Request<A: Allocator + Copy> {
 }
 
 impl<A: Allocator + Copy> Request<A> {
-    ghost use Rattle.git_msg.specs.Asked.{AreOffered, HasValues, arguments_in, written_bytes};
+    ghost use Rattle.git_msg.specs.Asked.{AreOffered, HasValues, arguments_in, asked_for, of_word, written_bytes};
     ghost use Rattle.git_msg.specs.Checks.{Passes, Refuses};
     ghost use Rattle.git_msg.specs.Lines.{end_checks};
     ghost use Rattle.git_msg.specs.Kept.{AreOf};
     ghost use Rattle.git_msg.specs.Machine.HeldRequest.{IsEmpty, asked_of, command_of, format_of, kept_of, limit_of, stored_of};
+    ghost use Rattle.git_msg.specs.declared.words.TextWord.{TextWord};
+    ghost use Rattle.git_msg.specs.declared.words.Word.{Word};
 
     /// A request without arguments. Later calls take memory from `alloc`, but only to keep an argument with a text or an
     /// object name.
@@ -44,6 +46,26 @@ impl<A: Allocator + Copy> Request<A> {
             Command::LsRefs => Request::LsRefs(LsRefs::new(alloc, format, limits)),
             Command::Fetch => Request::Fetch(Fetch::new(alloc, format, limits)),
             Command::ObjectInfo => Request::ObjectInfo(ObjectInfo::new(alloc, format, limits)),
+        }
+    }
+
+    /// A request of the command with its server options alone. As many bytes are counted as before.
+    pub(crate) fn for_command(self, alloc: A, command: Command) -> Request<A>
+        ensures asked { asked_of result ≡ asked_for command (of_word (Word.Text TextWord.ServerOption) (arguments_in (asked_of self))) }
+        ensures kept { kept_of result ≡ kept_of self }
+        ensures format { format_of result ≡ format_of self }
+        ensures limit { limit_of result ≡ limit_of self }
+    {
+        let arguments = match self {
+            Request::LsRefs(request) => request.into_arguments(),
+            Request::Fetch(request) => request.into_arguments(),
+            Request::ObjectInfo(request) => request.into_arguments(),
+        };
+        let options = arguments.options_alone(alloc);
+        match command {
+            Command::LsRefs => Request::LsRefs(LsRefs::of(options)),
+            Command::Fetch => Request::Fetch(Fetch::of(options)),
+            Command::ObjectInfo => Request::ObjectInfo(ObjectInfo::of(options)),
         }
     }
 
@@ -69,24 +91,7 @@ impl<A: Allocator + Copy> Request<A> {
     pub fn check_end(&self) -> Result<(), Kind>
         ensures { MatchResult result (λ _. Passes (end_checks (asked_of self.now))) (Refuses (end_checks (asked_of self.now))) }
     {
-        match self {
-            Request::LsRefs(_) => Ok(()),
-            Request::Fetch(request) => {
-                if request.has_deepen_conflict() {
-                    return Err(Kind::DeepenConflict);
-                }
-                if !request.has_wants() {
-                    return Err(Kind::NoWants);
-                }
-                Ok(())
-            }
-            Request::ObjectInfo(request) => {
-                if !request.size() {
-                    return Err(Kind::NoSize);
-                }
-                Ok(())
-            }
-        }
+        self.arguments().check_end(self.command())
     }
 
     /// Judges whether the features that the arguments need were advertised: `NotAdvertised` if one was not.
@@ -122,7 +127,7 @@ impl<A: Allocator + Copy> Request<A> {
         self.arguments().format()
     }
 
-    /// How many bytes the texts of the request's argument lines have, all of them together: as they came, if they were read,
+    /// How many bytes the texts of the request's argument lines and server options have together: as they came, if they were read,
     /// and as they are written, if they were added.
     pub fn kept(&self) -> u32
         ensures value { result ≡ kept_of self.now }
@@ -149,7 +154,7 @@ impl<A: Allocator + Copy> Request<A> {
     pub(crate) fn argument(&self, i: usize) -> Option<Argument<'_>>
         ensures value { option_map shown result ≡ slice_get (arguments_in (asked_of self.now)) i }
         ensures bound { OnSome result (i + 1 < 2 ^ 64) }
-        ensures fits { IfSome result (λ argument. length (written_text (shown argument)) < longest_payload) }
+        ensures fits { IfSome result (λ argument. FitsLine (shown argument)) }
     {
         self.arguments().argument(i)
     }
@@ -165,8 +170,8 @@ impl<A: Memory + Copy> Request<A> {
     /// Adds an argument after the others. It is refused in this order: `UnknownArgument` for an argument of another command;
     /// a value that is not allowed there (`BadObjectName` for an object name of another format, `BadNumber` for a number out
     /// of its range, `BadRefName` for a `want-ref` that is no reference name, `BadLine` for a text of more than 32,000 bytes
-    /// or an empty `deepen-not`); `TooMuchKept` if the texts of all lines, as they are written, would exceed the limit; and
-    /// `OutOfMemory`. Then the request stays as it was.
+    /// or an empty `deepen-not`, and for a server option with NUL or LF or of more than 65,502 bytes); `TooMuchKept` if the
+    /// texts of all lines, as they are written, would exceed the limit; and `OutOfMemory`. Then the request stays as it was.
     pub fn add(&mut self, argument: &Argument<'_>) -> Result<(), Kind>
         ensures added { OnOk result (Keeps self.old (shown argument.now) (length (written_text (shown argument.now))) self.new) }
         ensures passes { OnOk result (Passes (add_checks self.old (shown argument.now))) }

@@ -1,12 +1,14 @@
 //! The words at the head of arguments, by the shape of what follows them.
-ghost use Rattle.std.specs.Prelude.{◌≡◌, ◌≢◌, ◌+◌, ◌*◌, ◌<◌, ◌≤◌, ℕ, List, IfSome, MatchBool, MatchOption, MatchResult, length};
+ghost use Rattle.std.specs.Prelude.{◌≡◌, ◌≢◌, ◌+◌, ◌*◌, ◌<◌, ◌≤◌, ℕ, List, Some, IfSome, MatchBool, MatchOption, MatchResult, length};
 ghost use Rattle.git_names.specs.Steps.{TakesAtMost};
 ghost use Rattle.git_pkt.specs.declared.fault.Kind.{Kind};
-ghost use Rattle.git_msg.specs.Arguments.{IsNoArgument, IsNoNumberIn, IsNoTextOf, IsNumberIn, IsNumberOf, IsTextOf, line_of, refusal_of, row, words_of};
+ghost use Rattle.git_msg.specs.Arguments.{IsFor, IsNoArgument, IsNoNumberIn, IsNoTextOf, IsNumberIn, IsNumberOf, IsTextOf};
+ghost use Rattle.git_msg.specs.Arguments.{line_of, refusal_of, row, words_of};
 ghost use Rattle.git_msg.specs.Machine.ArgumentLists.{number_place, object_place};
 ghost use Rattle.git_msg.specs.Machine.TextPools.{text_place};
 
 use crate::arguments::Command;
+use crate::capabilities::is_value;
 use crate::flags::Flag;
 use crate::lists::NUMBERS;
 use crate::numbers::read_number;
@@ -53,6 +55,9 @@ pub enum TextWord {
     DeepenNot,
     /// `want-ref`: send the object of the reference of this name, whose text is a [`git_names::RefName`].
     WantRef,
+    /// `server-option`, a capability that requests of every command may have: an option whose meaning the server knows. Its
+    /// text has at most 65,502 bytes, none of them NUL or LF.
+    ServerOption,
 }
 
 /// A word before a number.
@@ -64,8 +69,10 @@ pub enum NumberWord {
     DeepenSince,
 }
 
-/// All words, in the order in which their arguments are written: those of `ls-refs`, of `fetch`, and of `object-info`.
+/// All words, in the order in which their arguments are written: that of every command, and those of `ls-refs`, of `fetch`, and
+/// of `object-info`.
 pub(crate) const WORDS: &[Word] = &[
+    Word::Text(TextWord::ServerOption),
     Word::Flag(Flag::Peel),
     Word::Flag(Flag::Symrefs),
     Word::Flag(Flag::Unborn),
@@ -89,26 +96,32 @@ pub(crate) const WORDS: &[Word] = &[
     Word::Object(ObjectWord::ObjectId),
 ];
 
+// The index of the first word of `ls-refs`.
+const LS_REFS: usize = 1;
+
 // The index of the first word of `fetch`.
-const FETCH: usize = 4;
+const FETCH: usize = 5;
 
 // The index of the first word of `object-info`.
-const OBJECT_INFO: usize = 19;
+const OBJECT_INFO: usize = 20;
 
 // The maximum length of a text that is kept.
 const MOST_TEXT: usize = 32_000;
+
+// The maximum length of a server option: its line is a whole payload.
+pub(crate) const MOST_OPTION: usize = 65_502;
 
 // The maximum length of a word.
 const LONGEST_WORD: usize = 15;
 
 impl Command {
-    /// The words of the command, in the order in which their arguments are written.
+    /// The words of the command, in the order in which their arguments are written. Those of every command are not among them.
     pub fn words(self) -> &'static [Word]
         ensures words { result.now ≡ words_of self }
         ensures few { length result.now ≤ 24 }
     {
         match self {
-            Command::LsRefs => &WORDS[..FETCH],
+            Command::LsRefs => &WORDS[LS_REFS..FETCH],
             Command::Fetch => &WORDS[FETCH..OBJECT_INFO],
             Command::ObjectInfo => &WORDS[OBJECT_INFO..],
         }
@@ -118,7 +131,7 @@ impl Command {
     /// looked for first.
     pub(crate) fn split<'a>(self, text: &'a [u8], steps: &mut Steps) -> Option<(Word, &'a [u8])>
         ensures parts { MatchOption result (IsNoArgument self text.now)
-            (λ parts. ((row parts.0).command ≡ self) × (text.now ≡ line_of parts.0 parts.1.now)) }
+            (λ parts. ((row parts.0).command ≡ Some self) × (text.now ≡ line_of parts.0 parts.1.now)) }
         ensures shorter { IfSome result (λ parts. length parts.1.now ≤ length text.now) }
         ensures cost { TakesAtMost (24 * (length text.now + 1)) steps.old steps.new }
     {
@@ -137,7 +150,7 @@ impl Command {
 }
 
 impl Word {
-    /// The word's text, with a space at its end if a value follows.
+    /// The word's text, with a space or `=` at its end if a value follows.
     pub fn keyword(self) -> &'static [u8]
         ensures value { result.now ≡ (row self).keyword }
         ensures short { length result.now ≤ 15 }
@@ -152,20 +165,32 @@ impl Word {
             Word::Text(TextWord::Filter) => b"filter ",
             Word::Text(TextWord::DeepenNot) => b"deepen-not ",
             Word::Text(TextWord::WantRef) => b"want-ref ",
+            Word::Text(TextWord::ServerOption) => b"server-option=",
             Word::Number(NumberWord::Deepen) => b"deepen ",
             Word::Number(NumberWord::DeepenSince) => b"deepen-since ",
         }
     }
 
-    /// The command that has the word.
-    pub fn command(self) -> Command
+    /// The command that has the word, or none if requests of every command may have it.
+    pub fn command(self) -> Option<Command>
         ensures { result ≡ (row self).command }
     {
         match self {
-            Word::Flag(flag) => flag.command(),
-            Word::Object(ObjectWord::ObjectId) => Command::ObjectInfo,
-            Word::Text(TextWord::RefPrefix) => Command::LsRefs,
-            _ => Command::Fetch,
+            Word::Flag(flag) => Some(flag.command()),
+            Word::Object(ObjectWord::ObjectId) => Some(Command::ObjectInfo),
+            Word::Text(TextWord::RefPrefix) => Some(Command::LsRefs),
+            Word::Text(TextWord::ServerOption) => None,
+            _ => Some(Command::Fetch),
+        }
+    }
+
+    /// Whether requests of the command may have the word.
+    pub(crate) fn is_for(self, command: Command) -> bool
+        ensures { MatchBool result (IsFor command (row self).command) (¬ IsFor command (row self).command) }
+    {
+        match self.command() {
+            Some(own) => own == command,
+            None => true,
         }
     }
 
@@ -179,6 +204,7 @@ impl Word {
             Word::Text(TextWord::Filter) => offer.filter,
             Word::Text(TextWord::DeepenNot) => offer.shallow,
             Word::Text(TextWord::WantRef) => offer.ref_in_want,
+            Word::Text(TextWord::ServerOption) => offer.server_option,
             Word::Number(_) => offer.shallow,
             _ => true,
         }
@@ -228,6 +254,10 @@ impl TextWord {
         match self {
             TextWord::WantRef => RefName::read(text, steps).is_ok(),
             TextWord::RefPrefix => text.len() <= MOST_TEXT,
+            TextWord::ServerOption => {
+                steps.tick(text.len() + 1);
+                is_value(text) && text.len() <= MOST_OPTION
+            }
             _ => !text.is_empty() && text.len() <= MOST_TEXT,
         }
     }

@@ -2,16 +2,19 @@
 ghost use Rattle.std.specs.Prelude.{◌≡◌, ◌↔◌, [], Bool, IsTrue, MatchOption};
 ghost use Rattle.std.specs.Bool.{OnTrue, OnFalse};
 ghost use Rattle.git_names.specs.declared.object_format.Format.{Format};
-ghost use Rattle.git_msg.specs.Asked.{Asked};
+ghost use Rattle.git_msg.specs.Asked.{Asked, arguments_in};
 ghost use Rattle.git_msg.specs.Machine.HeldRequest.{asked_of};
 ghost use Rattle.git_msg.specs.Agents.{named_if};
-ghost use Rattle.git_msg.specs.WrittenRequest.{argument_part, format_line, where_named, where_set};
+ghost use Rattle.git_msg.specs.WrittenRequest.{is_option as is_option_argument, options_and_rest, where_named};
+ghost use Rattle.git_msg.specs.Arguments.{shown};
 ghost use Rattle.git_msg.specs.declared.agent.Agent.{Agent};
 ghost use Rattle.git_msg.specs.Machine.RequestWriter.{written_of, PutsFirst, left_at, left_to_write, lines_from, lines_left};
 
 use crate::agent::Agent;
+use crate::arguments::Argument;
 use crate::offers::Caps;
 use crate::requests::Request;
+use crate::words::TextWord;
 use crate::writing::{put_argument, put_line};
 use git_pkt::{Hold, Packet, put};
 use std::alloc::Allocator;
@@ -21,15 +24,17 @@ use std::alloc::Allocator;
 enum Next {
     CommandLine,
     AgentLine,
-    ObjectFormat,
-    Delimiter,
+    // The server option at this index of the arguments, or the first packet after the last.
+    ServerOption(usize),
+    // The delimiter before the argument at this index.
+    Delimiter(usize),
     // The argument at this index, or the flush after the last.
     Argument(usize),
     Done,
 }
 
-/// Writes a request's packets, as in gitprotocol-v2(5): its command, then `agent` and `object-format` if they were
-/// advertised, the delimiter, its arguments and the flush.
+/// Writes a request's packets, as in gitprotocol-v2(5): its command, then `agent`, if it was advertised, its server options,
+/// `object-format`, if it was advertised, the delimiter, its arguments and the flush.
 #[derive(Clone, Copy, Debug)]
 pub struct RequestWriter {
     agent: Agent,
@@ -88,15 +93,12 @@ impl RequestWriter {
             }
             Next::AgentLine => {
                 put_line(hold, b"agent=", self.agent.text());
-                Some(self.after_agent())
+                Some(Next::ServerOption(0))
             }
-            Next::ObjectFormat => {
-                put_line(hold, b"object-format=", request.format().name().as_bytes());
-                Some(Next::Delimiter)
-            }
-            Next::Delimiter => {
+            Next::ServerOption(i) => Some(self.put_capability(request, i, hold)),
+            Next::Delimiter(i) => {
                 put(hold, Packet::Delim);
-                Some(Next::Argument(0))
+                Some(Next::Argument(i))
             }
             Next::Argument(i) => Some(put_from(request, i, hold)),
             Next::Done => None,
@@ -105,23 +107,43 @@ impl RequestWriter {
 
     fn after_command(&self) -> Next
         ensures { (format : Format) (asked : Asked) → lines_from result self.now.agent self.now.names_agent self.now.object_format format asked
-            ≡ where_named (named_if self.now.names_agent self.now.agent) (where_set self.now.object_format (format_line format) (argument_part asked)) }
+            ≡ where_named (named_if self.now.names_agent self.now.agent) (options_and_rest self.now.object_format format (arguments_in asked)) }
     {
         if self.names_agent {
             return Next::AgentLine;
         }
-        self.after_agent()
+        Next::ServerOption(0)
     }
 
-    fn after_agent(&self) -> Next
-        ensures { (format : Format) (asked : Asked) → lines_from result self.now.agent self.now.names_agent self.now.object_format format asked
-            ≡ where_set self.now.object_format (format_line format) (argument_part asked) }
+    // Writes the server option at index `i` of the arguments, or what follows the last.
+    fn put_capability<A: Allocator + Copy>(
+        &self,
+        request: &Request<A>,
+        i: usize,
+        hold: &mut Hold,
+    ) -> Next
+        ensures { PutsFirst (left_at (Next.ServerOption i) self.now request.now) (left_at result self.now request.now) hold.new.items }
     {
-        if self.object_format {
-            return Next::ObjectFormat;
+        if let Some(argument) = request.argument(i) {
+            if is_option(&argument) {
+                put_argument(hold, &argument);
+                return Next::ServerOption(i + 1);
+            }
         }
-        Next::Delimiter
+        if self.object_format {
+            put_line(hold, b"object-format=", request.format().name().as_bytes());
+            return Next::Delimiter(i);
+        }
+        put(hold, Packet::Delim);
+        Next::Argument(i)
     }
+}
+
+// Whether it is a server option.
+fn is_option(argument: &Argument<'_>) -> bool
+    ensures { result ≡ is_option_argument (shown argument.now) }
+{
+    matches!(argument, Argument::Text(TextWord::ServerOption, _))
 }
 
 /// Writes the line of the argument at index `i`, or the flush after the last.

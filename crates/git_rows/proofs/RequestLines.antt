@@ -5,7 +5,7 @@ use Rattle.git_pkt.specs.declared.fault.Kind.TheVariants.{UnknownCommand}
 use Rattle.git_msg.specs.Advertisement.{takes_command}
 use Rattle.git_msg.specs.Arguments.{name_of, ReadsAs, alone, with_id}
 use Rattle.git_msg.specs.declared.words.ObjectWord.{ObjectWord}
-use Rattle.git_msg.specs.Lines.{HasFault, key_by, IsLine, Line, agent, argument, command, delimiter}
+use Rattle.git_msg.specs.Lines.{HasFault, key_by, IsLine, Line, argument, command, delimiter, unkept}
 use Rattle.git_msg.specs.Requests.{AreLines, Asks}
 use Rattle.git_msg.specs.Asked.{fetch, ls_refs}
 use Rattle.git_msg.specs.WrittenRequest.{text_line}
@@ -22,34 +22,43 @@ takes_all Fetch = refl
 takes_all ObjectInfo = refl
 
 pub ls_refs_command : (limit : ℕ) → IsLine offer_all limit [] (text_line (codes "command=ls-refs")) (command LsRefs)
-ls_refs_command limit = record {
-  no_error = no_error_by (codes "command=ls-refs") refl;
-  key = key_by (codes "command");
-  value = Some (codes "ls-refs");
-  has_key = record { word = codes "command"; is_capability = (refl, refl, refl); is_word = refl };
-  allowed = (refl, ((LsRefs, refl), ((λ c e. takes_all c), tt)));
-  line_is = refl;
-}
+ls_refs_command limit = (
+  record {
+    no_error = no_error_by (codes "command=ls-refs") refl;
+    key = key_by (codes "command");
+    value = Some (codes "ls-refs");
+    has_key = record { word = codes "command"; is_capability = (refl, refl, refl); is_word = refl };
+    allowed = (refl, ((LsRefs, refl), ((λ c e. takes_all c), tt)));
+    line_is = refl;
+  },
+  tt,
+)
 
 pub fetch_command : (limit : ℕ) → IsLine offer_all limit [] (text_line (codes "command=fetch")) (command Fetch)
-fetch_command limit = record {
-  no_error = no_error_by (codes "command=fetch") refl;
-  key = key_by (codes "command");
-  value = Some (codes "fetch");
-  has_key = record { word = codes "command"; is_capability = (refl, refl, refl); is_word = refl };
-  allowed = (refl, ((Fetch, refl), ((λ c e. takes_all c), tt)));
-  line_is = refl;
-}
+fetch_command limit = (
+  record {
+    no_error = no_error_by (codes "command=fetch") refl;
+    key = key_by (codes "command");
+    value = Some (codes "fetch");
+    has_key = record { word = codes "command"; is_capability = (refl, refl, refl); is_word = refl };
+    allowed = (refl, ((Fetch, refl), ((λ c e. takes_all c), tt)));
+    line_is = refl;
+  },
+  tt,
+)
 
-pub agent_line : (limit : ℕ) → IsLine offer_all limit [] (text_line (codes "agent=a")) agent
-agent_line limit = record {
-  no_error = no_error_by (codes "agent=a") refl;
-  key = key_by (codes "agent");
-  value = Some (codes "a");
-  has_key = record { word = codes "agent"; is_capability = (refl, refl, refl); is_word = refl };
-  allowed = tt;
-  line_is = tt;
-}
+pub agent_line : (limit : ℕ) → IsLine offer_all limit [] (text_line (codes "agent=a")) unkept
+agent_line limit = (
+  record {
+    no_error = no_error_by (codes "agent=a") refl;
+    key = key_by (codes "agent");
+    value = Some (codes "a");
+    has_key = record { word = codes "agent"; is_capability = (refl, refl, refl); is_word = refl };
+    allowed = tt;
+    line_is = tt;
+  },
+  tt,
+)
 
 -- the lines of a fetch up to its delimiter
 abbrev pub fetch_begun : List Line

@@ -2,7 +2,7 @@
 use Rattle.std.specs.Prelude.{ℕ, Bool, List, [], Option, ◌∷◌, ◌++◌, codes, map, replicate}
 use Rattle.git_msg.specs.Advertisement.{everything}
 use Rattle.git_msg.specs.Arguments.{Arg, alone, with_id, with_text}
-use Rattle.git_msg.specs.Asked.{where_asked}
+use Rattle.git_msg.specs.Asked.{Asked, ls_refs, where_asked}
 use Rattle.git_msg.specs.declared.flags.Flag.{Flag}
 use Rattle.git_msg.specs.declared.words.ObjectWord.{ObjectWord}
 use Rattle.git_msg.specs.declared.words.TextWord.{TextWord}
@@ -77,6 +77,13 @@ sizes_of ids = alone Flag.Size ∷ map (with_id ObjectWord.ObjectId) ids
 -- a request for references, from the offset 0 on
 abbrev pub ls_refs_packets : List Given
 ls_refs_packets = at 0 (text_line (codes "command=ls-refs")) ∷ at 20 flush ∷ []
+
+-- the same after a server option
+abbrev pub option_packets : List Given
+option_packets = at 0 (text_line (codes "server-option=x")) ∷ at 20 (text_line (codes "command=ls-refs")) ∷ at 40 flush ∷ []
+
+abbrev pub option_asked : Asked
+option_asked = ls_refs (with_text TextWord.ServerOption (codes "x") ∷ [])
 
 -- a fetch of one object without its last packets
 abbrev pub want_alone_packets : List Given

@@ -10,7 +10,7 @@ ghost use Rattle.git_pkt.specs.Packets.{delim, flush, resp_end};
 ghost use Rattle.git_pkt.specs.declared.fault.Kind.TheVariants.{NoWants, OutOfMemory, TooMuchKept, UnexpectedPacket, UnknownCommand};
 ghost use Rattle.git_pkt.specs.declared.fault.Kind.TheVariants.{BadCapability, NoCommand, NotAdvertised, RemoteError, TwoCommands, WrongFormat};
 ghost use Rattle.git_rows.specs.Worked.{at, fetch_done_packets, fetch_of, ls_refs_of, ls_refs_packets, name_a, no_want_packets, offer_all};
-ghost use Rattle.git_rows.specs.Worked.{three_argument_packets, want_alone_packets};
+ghost use Rattle.git_rows.specs.Worked.{option_asked, option_packets, three_argument_packets, want_alone_packets};
 
 /// A request for references without arguments.
 pub fn request_for_references()
@@ -18,6 +18,16 @@ pub fn request_for_references()
     ensures not_for_a_prefix { ¬ Asks offer_all 0 ls_refs_packets (ls_refs (ls_refs_of (codes "refs/" ∷ []))) 0 }
     ensures not_of_more_bytes { ¬ Asks offer_all 0 ls_refs_packets (ls_refs (ls_refs_of [])) 1 }
     ensures not_without_its_flush { ¬ Asks offer_all 0 (at 0 (text_line (codes "command=ls-refs")) ∷ []) (ls_refs (ls_refs_of [])) 0 }
+{}
+
+/// A request with a server option, which comes before its command: it is kept, within a limit of exactly its line's bytes.
+pub fn request_with_a_server_option()
+    ensures asks { Asks offer_all 15 option_packets option_asked 15 }
+    ensures not_without_it { ¬ Asks offer_all 15 option_packets (ls_refs (ls_refs_of [])) 15 }
+    ensures not_uncounted { ¬ Asks offer_all 15 option_packets option_asked 0 }
+    ensures past_the_limit { FirstFault offer_all 14 option_packets TooMuchKept 0 }
+    ensures not_by_another_name { ¬ FirstFault offer_all 14 option_packets NotAdvertised 0 }
+    ensures memory { WantsMemory offer_all 15 (at 0 (text_line (codes "server-option=x")) ∷ []) OutOfMemory 0 }
 {}
 
 /// A fetch of one object, with `done`, within a limit of exactly its bytes.

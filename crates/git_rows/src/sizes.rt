@@ -7,8 +7,8 @@ use git_pkt::PacketReader;
 use git_server::{ListRepo, Server, SharedRepo};
 use std::alloc::Global;
 
-/// The maximum size of a machine with a buffer for one packet: 65 KiB. The packet takes 65,520 bytes of it.
-const MACHINE: usize = 66_560;
+/// The maximum size of a machine with a buffer for one packet. The packet takes 65,520 bytes of it.
+const MACHINE: usize = 66_656;
 
 /// The maximum size of a reader of requests, which has no such buffer.
 const READER: usize = 512;

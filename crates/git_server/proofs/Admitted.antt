@@ -1,7 +1,7 @@
 -- What follows of requests if the repository refuses one of their arguments, or none.
 use Rattle.std.proofs.Common.{◌≡◌, ◌≢◌, ℕ, Bool, true, false, if◌then◌else◌, All, IfSome, Option, Some, None, List, [], ◌∷◌, ◌++◌}
 use Rattle.std.proofs.Common.{refl, sym, ap, ◌∙◌, subst, inl, inr}
-use Rattle.std.proofs.lemmas.List.Elements.{All-weaker}
+use Rattle.std.proofs.lemmas.List.Elements.{All-append, All-cons, All-nil, All-weaker}
 use Rattle.git_names.specs.ObjectName.{ObjectName}
 use Rattle.git_pkt.specs.Splits.{Given}
 use Rattle.git_pkt.specs.declared.fault.Fault.{Fault}
@@ -15,7 +15,7 @@ use Rattle.git_msg.specs.Arguments.{Arg, with_id, with_text}
 use Rattle.git_msg.specs.declared.words.ObjectWord.{ObjectWord}
 use Rattle.git_msg.specs.declared.words.TextWord.{TextWord}
 use Rattle.git_msg.specs.Asked.{Asked, asked_by, id_in, text_in, written}
-use Rattle.git_msg.specs.Lines.{Line, arguments_of}
+use Rattle.git_msg.specs.Lines.{Line, arguments_of, kept_arguments, options_of, server_option}
 use Rattle.git_msg.specs.Requests.{AreLines, Asks}
 use Rattle.git_msg.proofs.FoundParts.{All-filter_map}
 use Rattle.git_msg.proofs.LineLaws.{fronts_same, one_list_of_lines}
@@ -71,6 +71,17 @@ asked_had repo Fetch args h =
           (ref_found repo) (written args) all),
     )
 
+-- a repository refuses no server option
+options_admitted : (repo : Repository) (lines : List Line) → All (IsAdmitted (barred repo)) (options_of lines)
+options_admitted repo [] = All-nil (IsAdmitted (barred repo))
+options_admitted repo (server_option option ∷ lines) =
+    All-cons (IsAdmitted (barred repo)) (with_text TextWord.ServerOption option) (options_of lines) refl (options_admitted repo lines)
+options_admitted repo (line ∷ lines) = options_admitted repo lines
+
+all_admitted : (repo : Repository) (lines : List Line) → AreAdmitted (barred repo) lines → All (IsAdmitted (barred repo)) (kept_arguments lines)
+all_admitted repo lines admitted =
+    All-append (IsAdmitted (barred repo)) (options_of lines) (arguments_of lines) (options_admitted repo lines) admitted
+
 module _ (offer : Offer) (limit : ℕ) (repo : Repository) where
   -- a fault of the packets that no packet is refused for, but by a repository
   pub not_announced_for : (packets : List Given) (fault : Fault) (kind : Kind) → NotOfPackets kind → NotOfRepository kind
@@ -85,4 +96,5 @@ module _ (offer : Offer) (limit : ℕ) (repo : Repository) where
   request_had left g lines q kept are admitted asks =
       let its_lines = subst (λ (gs : List Given). AreLines offer limit [] gs lines) (fronts_same left asks.front g asks.last asks.whole) are in
       let same = one_list_of_lines offer limit [] asks.front lines asks.lines its_lines asks.taken in
-      subst (HasAsked repo) (sym asks.asked_is) (asked_had repo asks.command (arguments_of asks.lines) (subst (AreAdmitted (barred repo)) same admitted))
+      subst (HasAsked repo) (sym asks.asked_is)
+      (asked_had repo asks.command (kept_arguments asks.lines) (all_admitted repo asks.lines (subst (AreAdmitted (barred repo)) same admitted)))

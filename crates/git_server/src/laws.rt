@@ -21,7 +21,7 @@ use git_msg::Memory;
 use std::alloc::Allocator;
 
 /// At every moment the bytes that a server has used and sent are those of a session: without an outcome the session goes on,
-/// and with one it ended so. The argument lines that the server stores are within its limit.
+/// and with one it ended so. The argument lines and server options that the server stores are within its limit.
 pub fn server_keeps_to_its_session<R: Repo, A: Allocator + Copy>(server: &Server<R, A>)
     ensures within { (s : Setting) (used : List ℕ) (over : Bool) (given : List ℕ) →
         Running R.state s used over given server.now → kept_by server.now ≤ s.limit }

@@ -113,9 +113,9 @@ impl<R: Repo, A: Allocator + Copy> Server<R, A> {
     ghost use Rattle.git_server.specs.Machine.WrittenPackets.{IsAtFront};
     ghost use Rattle.git_pkt.specs.Machine.PacketReader.{held_of};
 
-    /// A server at the beginning of a session over this repository. It stores argument lines of each request whose texts have at
-    /// most `limits.args` bytes together, in memory from `alloc`. If `advertise` is set, it first sends the advertisement of the
-    /// offer. The offer must have the repository's object format.
+    /// A server at the beginning of a session over this repository. It stores argument lines and server options of each request whose
+    /// texts have at most `limits.args` bytes together, in memory from `alloc`. If `advertise` is set, it first sends the advertisement
+    /// of the offer. The offer must have the repository's object format.
     pub fn new(alloc: A, repo: R, offer: Offer, limits: Limits, advertise: bool) -> Server<R, A>
         requires format { offer.format ≡ (R.state repo).answers.format }
         ensures running { Running R.state (first_setting R.state repo offer limits.args advertise) [] false [] result }

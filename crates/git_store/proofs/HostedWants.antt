@@ -21,7 +21,7 @@ use Rattle.git_msg.specs.Asked.{Asked, all_or_last, arguments_in, asked_by, coun
 use Rattle.git_msg.specs.Asked.{object_info, of_word, want_refs_in, wants_in, written}
 use Rattle.git_msg.specs.declared.arguments.Command.{Command}
 use Rattle.git_msg.specs.declared.arguments.Command.TheVariants.{LsRefs, Fetch, ObjectInfo}
-use Rattle.git_msg.specs.Lines.{Line, argument_in, arguments_of}
+use Rattle.git_msg.specs.Lines.{Line, argument_in, arguments_of, kept_arguments, options_of}
 use Rattle.git_msg.specs.Requests.{AreLines, Asks}
 use Rattle.git_msg.specs.WholeRequests.{AreRequests}
 use Rattle.git_msg.specs.Machine.RequestStreams.{AreAsked, IsOne}
@@ -92,6 +92,11 @@ refusal_name : (repo : Repository) (arg : Arg) (kind : Kind) → barred repo arg
 refusal_name repo (with_id ObjectWord.Want id) kind is = inl (barred_want (repo.has id) kind is)
 refusal_name repo (with_text TextWord.WantRef name) kind is = inr (barred_name (found_ref repo.refs name) kind is)
 refusal_name repo arg kind is = absurd (cc)
+
+-- what holds of two lists holds of the second
+all_behind : {X : Type 0} (P : X → Type 0) (xs ys : List X) → All P (xs ++ ys) → All P ys
+all_behind P [] ys all = all
+all_behind P (x ∷ xs) ys all = all_behind P xs ys (All-tail P x (xs ++ ys) all)
 
 -- where it has all objects that are wanted, that is a reference
 barred_had : (b : Bool) (kind : Kind) → b ≡ true → (if b then None else Some NotOurs) ≡ Some kind → ⊥
@@ -313,10 +318,11 @@ module _ (s : HostSetting) (repo : Repository) (failures : ℕ) (used : List ℕ
         later = later;
         cut = cut;
         line = line;
-        name = name_at_line repo fault.kind l.q l.f asks.command (arguments_of asks.lines) first.is_barred.arg first.kind lacks asks.asked_is
+        name = name_at_line repo fault.kind l.q l.f asks.command (kept_arguments asks.lines) first.is_barred.arg first.kind lacks asks.asked_is
             (λ P all. holds_of P (argument_in first.own) first.is_barred.arg first.there
             (holds_at (λ (x : Line). IfSome (argument_in x) P) first.lines first.own first.behind
-            (subst (All (λ (x : Line). IfSome (argument_in x) P)) first.all_is (each_found P argument_in asks.lines all))))
+            (subst (All (λ (x : Line). IfSome (argument_in x) P)) first.all_is
+            (each_found P argument_in asks.lines (all_behind P (options_of asks.lines) (arguments_of asks.lines) all)))))
             first.is_barred.refuses;
         ends = record {
           asked = l.earlier;

@@ -46,4 +46,4 @@ number_words = NumberWord.Deepen ∷ NumberWord.DeepenSince ∷ []
 abbrev pub item_words : List Word
 item_words =
     of_text TextWord.RefPrefix ∷ of_object ObjectWord.Want ∷ of_object ObjectWord.Have ∷ of_object ObjectWord.Shallow ∷ of_text TextWord.DeepenNot
-    ∷ of_text TextWord.WantRef ∷ of_object ObjectWord.ObjectId ∷ of_text TextWord.Filter ∷ []
+    ∷ of_text TextWord.WantRef ∷ of_object ObjectWord.ObjectId ∷ of_text TextWord.Filter ∷ of_text TextWord.ServerOption ∷ []

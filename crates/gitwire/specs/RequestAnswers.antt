@@ -5,12 +5,13 @@ use Rattle.std.specs.Global.{Global}
 use Rattle.git_names.specs.ObjectName.{hex_of}
 use Rattle.git_pkt.specs.declared.fault.Kind.{Kind}
 use Rattle.git_msg.specs.Advertisement.{everything}
-use Rattle.git_msg.specs.Arguments.{Arg, IsArgumentFault, ReadsAs, most_limit, written_text}
+use Rattle.git_msg.specs.Arguments.{Arg, with_text, IsArgumentFault, ReadsAs, most_limit, written_text}
 use Rattle.git_msg.specs.Asked.{Asked, flag_among, ids, number, texts}
 use Rattle.git_msg.specs.Checks.{Passes, Refuses}
 use Rattle.git_msg.specs.Machine.HeldRequest.{IsEmpty, IsRefused, Keeps, add_checks, command_of, format_of}
 use Rattle.git_msg.specs.Lines.{end_checks}
 use Rattle.git_msg.specs.declared.requests.Request.{Request}
+use Rattle.git_msg.specs.declared.words.TextWord.{TextWord}
 use Rattle.git_msg.specs.declared.words.Word.{Word}
 use Rattle.git_msg.specs.declared.words.Word.TheVariants.{Object as of_object, Text as of_text}
 use Rattle.gitwire.specs.Numbers.{commands, flags, formats, number_words, numbered}
@@ -70,6 +71,22 @@ AddsLine old line (Err kind) new = (new ≡ old) × IsLineRefused old line kind
 pub record AddsAnswers (old : Request Global) (line : List ℕ) (answer : GitwireAnswer) (new : Request Global) : Type 0 where
   pub added : Result (Unit {0}) Kind
   pub adds : AddsLine old line added new
+  pub answer_is : answer ≡ announcing_result added
+
+-- the text is a request's argument as a server option
+abbrev pub option_of : List ℕ → Arg
+option_of text = with_text TextWord.ServerOption text
+
+-- the server option is added to the other arguments, or refused, and the request is unchanged
+abbrev pub AddsOption : Request Global → List ℕ → Result (Unit {0}) Kind → Request Global → Type 0
+AddsOption old text (Ok done) new =
+    Passes (add_checks old (option_of text)) × Keeps old (option_of text) (length (written_text (option_of text))) new
+AddsOption old text (Err kind) new = (new ≡ old) × IsRefused (add_checks old (option_of text)) (option_of text) kind
+
+-- a server option is added or refused, and that is reported to C
+pub record AddsOptionAnswers (old : Request Global) (text : List ℕ) (answer : GitwireAnswer) (new : Request Global) : Type 0 where
+  pub added : Result (Unit {0}) Kind
+  pub adds : AddsOption old text added new
   pub answer_is : answer ≡ announcing_result added
 
 -- the request is whole, or it is not, by this kind of error

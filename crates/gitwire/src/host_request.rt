@@ -72,8 +72,8 @@ fn number(server: &HostServer<Global>, which: u32) -> GitwireAnswer
     }
 }
 
-/// Writes the text at an index of a list of the request that is asked about or answered, from `REF_PREFIXES` to `FILTERS`, to the front of
-/// the buffer, an object name as its digits. `Done`, and `length` is how many bytes it has; `Nothing` past the end of the list, and if
+/// Writes the text at an index of a list of the request that is asked about or answered, from `REF_PREFIXES` to `SERVER_OPTIONS`, to the
+/// front of the buffer, an object name as its digits. `Done`, and `length` is how many bytes it has; `Nothing` past the end of the list, and if
 /// there is no request; `BufferTooSmall`; `BadValue`; or `NoRequest`.
 #[unsafe(no_mangle)]
 pub extern "C" fn gitwire_host_item(

@@ -96,6 +96,7 @@ pub(crate) fn item_word(number: u32) -> Option<Word>
         6 => Some(Word::Text(TextWord::WantRef)),
         7 => Some(Word::Object(ObjectWord::ObjectId)),
         8 => Some(Word::Text(TextWord::Filter)),
+        9 => Some(Word::Text(TextWord::ServerOption)),
         _ => None,
     }
 }

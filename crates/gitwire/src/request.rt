@@ -6,7 +6,7 @@ ghost use Rattle.git_msg.specs.Machine.HeldRequest.{asked_of, command_of, format
 ghost use Rattle.gitwire.specs.Calls.{HasNone, Of, On};
 ghost use Rattle.gitwire.specs.Handles.{request_in};
 ghost use Rattle.gitwire.specs.Numbers.{command_number, format_number, item_words, numbered};
-ghost use Rattle.gitwire.specs.RequestAnswers.{AddsLine, AddsAnswers, EndsAnswers, Makes, MeanNoRequest, MeanRequest, PutsFrom};
+ghost use Rattle.gitwire.specs.RequestAnswers.{AddsLine, AddsAnswers, AddsOptionAnswers, EndsAnswers, Makes, MeanNoRequest, MeanRequest, PutsFrom};
 ghost use Rattle.gitwire.specs.Answers.{answering};
 ghost use Rattle.gitwire.specs.RequestAnswers.{is_set, announcing_result, announcing_which};
 
@@ -14,7 +14,7 @@ use crate::answer::{GitwireAnswer, What};
 use crate::handles::{GitwireRequest, Holds, fill, on};
 use crate::numbers::{command_numbered, format_numbered, number_of_command, number_of_format};
 use crate::request_items::{given_number, has_flag, put_item};
-use git_msg::{Limits, Offer, Request, read_argument};
+use git_msg::{Argument, Limits, Offer, Request, TextWord, read_argument};
 use git_names::Steps;
 use git_pkt::{Fault, Kind};
 use std::alloc::Global;
@@ -92,6 +92,26 @@ fn add_line(request: &mut Request<Global>, line: &[u8]) -> Result<(), Kind>
     }
 }
 
+/// Adds a server option after those that the request has, whatever its command. `Done`; `Failed`, and the request is unchanged: `BadLine` for
+/// a text with NUL or LF, or of more than 65,502 bytes, `TooMuchKept` or `OutOfMemory`; or `NoRequest`.
+#[unsafe(no_mangle)]
+pub extern "C" fn gitwire_request_add_server_option(
+    alloc: Global,
+    request: &mut GitwireRequest,
+    option: &[u8],
+) -> GitwireAnswer
+    ensures { On (request_in request.old) (request_in request.new) (λ old new. AddsOptionAnswers old option.now result new)
+        (result ≡ answering What.NoRequest) }
+{
+    on!(request, alloc; add_option(request, option))
+}
+
+fn add_option(request: &mut Request<Global>, option: &[u8]) -> GitwireAnswer
+    ensures { AddsOptionAnswers request.old option.now result request.new }
+{
+    announce(request.add(&Argument::Text(TextWord::ServerOption, option)))
+}
+
 fn announce(judged: Result<(), Kind>) -> GitwireAnswer
     ensures { result ≡ announcing_result judged }
 {
@@ -157,7 +177,7 @@ pub extern "C" fn gitwire_request_number(
     on!(request, alloc; given_number(request.arguments(), which))
 }
 
-/// Writes the text at an index of a list, from `REF_PREFIXES` to `FILTERS`, to the front of the buffer, an object name as its digits.
+/// Writes the text at an index of a list, from `REF_PREFIXES` to `SERVER_OPTIONS`, to the front of the buffer, an object name as its digits.
 /// `Done`, and `length` is how many bytes it has; `Nothing` past the end of the list; `BufferTooSmall`; `BadValue`; or `NoRequest`.
 #[unsafe(no_mangle)]
 pub extern "C" fn gitwire_request_item(

@@ -5,7 +5,9 @@ use crate::script::{Script, Step};
 use crate::setup::{MANY, limits, offer};
 use crate::texts::append;
 use crate::trouble::Trouble;
-use git_msg::{Agent, Argument, Caps, Command, Offer, Request, RequestWriter, read_argument};
+use git_msg::{
+    Agent, Argument, Caps, Command, Offer, Request, RequestWriter, TextWord, after, read_argument,
+};
 use git_names::{Format, Steps};
 use git_pkt::{Hold, Kind};
 use std::alloc::Global;
@@ -20,12 +22,15 @@ pub struct Asking {
     pub object_format: bool,
 }
 
-/// The argument of a command with this text, if it is advertised.
+/// The server option, or the argument of a command, with this text, if it is advertised.
 pub fn argument_of<'a>(
     command: Command,
     offer: &Offer,
     text: &'a [u8],
 ) -> Result<Argument<'a>, Kind> {
+    if let Some(option) = after(text, b"server-option=") {
+        return Ok(Argument::Text(TextWord::ServerOption, option));
+    }
     read_argument(command, offer, text, &mut Steps::new())
 }
 

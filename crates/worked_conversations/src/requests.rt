@@ -44,6 +44,7 @@ fn append_word(
     word: Word,
 ) -> Result<(), AllocError> {
     let name = word.keyword().trim_ascii_end();
+    let name = name.strip_suffix(b"=").unwrap_or(name);
     match word {
         Word::Flag(flag) if !arguments.has(flag) => Ok(()),
         Word::Flag(_) => append_text(alloc, lines, name, b""),
@@ -99,6 +100,8 @@ fn append_request(
     let (format, kept) = (request.format().name(), request.kept());
     let head = format!(in alloc; "request {command} {format} kept {kept}\n")?;
     append(lines, head.as_bytes())?;
+    let options = Word::Text(TextWord::ServerOption);
+    append_word(alloc, lines, request.arguments(), options)?;
     for word in request.command().words() {
         append_word(alloc, lines, request.arguments(), *word)?;
     }

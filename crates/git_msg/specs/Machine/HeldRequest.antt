@@ -1,4 +1,4 @@
--- Requests as they are kept, within a limit on the bytes of their argument lines.
+-- Requests as they are kept, within a limit on the bytes of their argument lines and server options.
 use Rattle.std.specs.Prelude.{◌≡◌, ◌⊎◌, ℕ, ◌+◌, ◌<◌, ◌≤◌, List, [], ◌∷◌, length}
 use Rattle.git_names.specs.declared.object_format.Format.{Format}
 use Rattle.git_pkt.specs.declared.fault.Kind.{Kind}
@@ -31,7 +31,7 @@ module _ {A : Type 0} where
   abbrev pub format_of : Request A → Format
   format_of q = (holding_of q).format
 
-  -- how many bytes the texts of its argument lines had
+  -- how many bytes the texts of its argument lines and server options had
   abbrev pub kept_of : Request A → ℕ
   kept_of q = (holding_of q).kept
 

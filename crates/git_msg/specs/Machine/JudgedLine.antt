@@ -3,15 +3,15 @@ use Rattle.std.specs.Prelude.{ℕ, List}
 use Rattle.git_msg.specs.declared.offers.Offer.{Offer}
 use Rattle.git_msg.specs.declared.arguments.Command.{Command}
 use Rattle.git_msg.specs.declared.judge.Noted.{Noted}
-use Rattle.git_msg.specs.declared.judge.Noted.TheVariants.{Command as NotedCommand, Agent, ServerOption, ObjectFormat}
+use Rattle.git_msg.specs.declared.judge.Noted.TheVariants.{Command as NotedCommand, Unkept, ServerOption, ObjectFormat}
 use Rattle.git_msg.specs.Texts.{IsErrorText}
 use Rattle.git_msg.specs.Arguments.{Arg, ReadsAs}
-use Rattle.git_msg.specs.Lines.{Line, command, agent, server_option, object_format}
+use Rattle.git_msg.specs.Lines.{Line, command, unkept, server_option, object_format}
 
 abbrev pub line_of : Noted → Line
 line_of (NotedCommand c) = command c
-line_of Agent = agent
-line_of ServerOption = server_option
+line_of Unkept = unkept
+line_of (ServerOption option) = server_option option.now
 line_of ObjectFormat = object_format
 
 -- the text is this argument of the command, and no error

@@ -6,7 +6,7 @@ use Rattle.git_msg.specs.Machine.TextPools.{IsEnd, text_place}
 
 module _ {X A : Type 0} where
   abbrev pub lists_of : Lists X A → List (Vec X A)
-  lists_of l = l.first ∷ l.second ∷ l.third ∷ l.fourth ∷ []
+  lists_of l = l.first ∷ l.second ∷ l.third ∷ l.fourth ∷ l.fifth ∷ []
 
   -- the items in the list at this place
   abbrev pub items_at : Lists X A → ℕ → List X

@@ -14,7 +14,8 @@ use Rattle.git_msg.specs.Arguments.{Arg}
 use Rattle.git_msg.specs.Asked.{asked_by}
 use Rattle.git_msg.specs.Machine.HeldRequest.{asked_of, command_of, format_of, kept_of, limit_of, stored_of}
 use Rattle.git_msg.specs.Memory.{NeedsRefusal}
-use Rattle.git_msg.specs.Lines.{Line, commands_of, arguments_of, kept_in, has_format, has_delimiter}
+use Rattle.git_msg.specs.declared.arguments.Command.TheVariants.{LsRefs}
+use Rattle.git_msg.specs.Lines.{Line, commands_of, arguments_of, kept_arguments, kept_in, has_format, has_delimiter, options_of}
 use Rattle.git_msg.specs.Requests.{AreBegun, AreLines, Asks, IsStop}
 
 -- no line yet
@@ -62,20 +63,21 @@ module _ {A : Type 0} where
   abbrev pub fault_of : RequestReader A → Option Fault
   fault_of r = fault_in r.part
 
-  -- no delimiter has come yet
+  -- no delimiter has come yet, and the server options so far are kept, in a request of any command
   pub record InCapabilities (lines : List Line) (r : RequestReader A) : Type 0 where
     pub before : has_delimiter lines ≡ false
     pub begun : is_nil lines ≡ not r.begun
     pub command : commands_of lines ≡ option_to_list r.command
     pub format : has_format lines ≡ r.has_format
     pub no_argument : arguments_of lines ≡ []
-    pub nothing_kept : kept_in lines ≡ 0
+    pub asked : asked_of r.request ≡ asked_by LsRefs (options_of lines)
+    pub kept : kept_of r.request ≡ kept_in lines
 
   -- the delimiter came, and the arguments so far are kept
   pub record InArguments (lines : List Line) (r : RequestReader A) : Type 0 where
     pub behind : has_delimiter lines ≡ true
     pub command : commands_of lines ≡ command_of r.request ∷ []
-    pub asked : asked_of r.request ≡ asked_by (command_of r.request) (arguments_of lines)
+    pub asked : asked_of r.request ≡ asked_by (command_of r.request) (kept_arguments lines)
     pub kept : kept_of r.request ≡ kept_in lines
 
   -- the lines, in the part of the request where the reader is

@@ -1,5 +1,5 @@
 -- The parts of a request reader's calls, after given lines.
-use Rattle.std.specs.Prelude.{◌≡◌, ◌⊎◌, ℕ, Bool, true, Option, Some, None, option_to_list, Result, Ok, Err, List, [], ◌∷◌, ◌++◌}
+use Rattle.std.specs.Prelude.{◌≡◌, ◌⊎◌, ◌||◌, ℕ, Bool, true, Option, Some, None, option_to_list, Result, Ok, Err, List, [], ◌∷◌, ◌++◌}
 use Rattle.git_pkt.specs.Packets.{Pkt, flush}
 use Rattle.git_pkt.specs.declared.fault.Kind.{Kind}
 use Rattle.git_pkt.specs.declared.fault.Kind.TheVariants.{OutOfMemory}
@@ -9,44 +9,74 @@ use Rattle.git_msg.specs.declared.reader.RequestReader.{RequestReader}
 use Rattle.git_msg.specs.declared.reader.Taken.{Taken}
 use Rattle.git_msg.specs.declared.reader.Taken.TheVariants.{More, Whole, Stop}
 use Rattle.git_msg.specs.Admission.{IsBarred}
-use Rattle.git_msg.specs.Arguments.{Arg, TakesMemory}
-use Rattle.git_msg.specs.Asked.{asked_by}
-use Rattle.git_msg.specs.Machine.HeldRequest.{asked_of, command_of, kept_of}
+use Rattle.git_msg.specs.declared.requests.Request.{Request}
+use Rattle.git_msg.specs.declared.words.TextWord.{TextWord}
+use Rattle.git_msg.specs.Arguments.{Arg, with_text}
+use Rattle.git_msg.specs.declared.words.Word.{Word}
+use Rattle.git_msg.specs.Asked.{arguments_in, asked_by, asked_for, of_word}
+use Rattle.git_msg.specs.Machine.HeldRequest.{Keeps, asked_of, command_of, kept_of}
 use Rattle.git_msg.specs.Checks.{Passes, Refuses}
-use Rattle.git_msg.specs.Lines.{Line, command, object_format, argument, commands_of, arguments_of, kept_in, IsCapabilityLine}
-use Rattle.git_msg.specs.Lines.{IsLine, HasFault, part_checks, flush_checks, is_none}
-use Rattle.git_msg.specs.Machine.RequestReader.{InCapabilities, InLines, fault_of, limit_in}
+use Rattle.git_msg.specs.Lines.{Line, command, server_option, commands_of, kept_arguments, kept_in, long_of, IsCapabilityLine}
+use Rattle.git_msg.specs.Lines.{FitsLimit, IsLine, HasFault, noting_checks, part_checks, flush_checks, is_none, is_object_format}
+use Rattle.git_msg.specs.Requests.{NeedsMemory}
+use Rattle.git_msg.specs.Machine.RequestReader.{InCapabilities, InLines, fault_of, kept_so_far, limit_in}
+
+-- the command after one more line of the capability part
+abbrev pub command_after : Line → Option Command → Option Command
+command_after (command c) old = Some c
+command_after line old = old
 
 module _ {A : Type 0} where
   -- no command line has come yet
   abbrev pub is_first : RequestReader A → Bool
   is_first r = is_none (option_to_list r.command)
 
-  -- the reader after one more line of the capability part
-  abbrev pub with_line : Line → RequestReader A → RequestReader A
-  with_line (command c) r = record r { begun = true; command = Some c }
-  with_line object_format r = record r { begun = true; has_format = true }
-  with_line _ r = record r { begun = true }
+  -- the request after one more such line: a server option is kept
+  abbrev pub IsKeptAs : Line → Request A → Request A → Type 0
+  IsKeptAs (server_option option) old new = Keeps old (with_text TextWord.ServerOption option) (long_of (server_option option)) new
+  IsKeptAs line old new = new ≡ old
 
-  -- the readers are the same, field by field, but for where they take memory from
-  pub record IsSame (r other : RequestReader A) : Type 0 where
-    pub offer : r.offer ≡ other.offer
-    pub part : r.part ≡ other.part
-    pub begun : r.begun ≡ other.begun
-    pub command : r.command ≡ other.command
-    pub has_format : r.has_format ≡ other.has_format
-    pub request : r.request ≡ other.request
+  -- the reader after one more such line
+  pub record IsNoted (line : Line) (old new : RequestReader A) : Type 0 where
+    pub offer : new.offer ≡ old.offer
+    pub part : new.part ≡ old.part
+    pub begun : new.begun ≡ true
+    pub command : new.command ≡ command_after line old.command
+    pub has_format : new.has_format ≡ (is_object_format line || old.has_format)
+    pub request : IsKeptAs line old.request new.request
 
   -- the text was noted as a line
   pub record Notes (old : RequestReader A) (text : List ℕ) (new : RequestReader A) : Type 0 where
     pub line : Line
     pub is_line : IsCapabilityLine old.offer (is_first old) text line
-    pub new_is : IsSame new (with_line line old)
+    pub fits_limit : FitsLimit (limit_in old) (kept_so_far old) line
+    pub new_is : IsNoted line old new
+
+  -- there is no memory for a server option that nothing refuses
+  pub record LacksMemoryFor (old : RequestReader A) (text : List ℕ) (kind : Kind) : Type 0 where
+    pub line : Line
+    pub is_line : IsCapabilityLine old.offer (is_first old) text line
+    pub fits_limit : FitsLimit (limit_in old) (kept_so_far old) line
+    pub needs_memory : NeedsMemory line
+    pub name : kind ≡ OutOfMemory
+
+  -- the text was not noted, because of this error
+  abbrev pub IsUnnoted : RequestReader A → List ℕ → Kind → Type 0
+  IsUnnoted old text kind =
+      Refuses (noting_checks old.offer (limit_in old) (is_first old) (kept_so_far old) text) kind ⊎ LacksMemoryFor old text kind
 
   -- the command is there, and the format is right
   pub record IsExpected (r : RequestReader A) (c : Command) : Type 0 where
     pub there : r.command ≡ Some c
     pub passes : Passes (part_checks r.offer (option_to_list r.command) r.has_format)
+
+  -- the request is one of the command, with the server options of the request before
+  pub record Begins (c : Command) (old new : RequestReader A) : Type 0 where
+    pub offer : new.offer ≡ old.offer
+    pub part : new.part ≡ old.part
+    pub asked : asked_of new.request ≡ asked_for c (of_word (Word.Text TextWord.ServerOption) (arguments_in (asked_of old.request)))
+    pub kept : kept_of new.request ≡ kept_of old.request
+    pub limit : limit_in new ≡ limit_in old
 
   abbrev pub IsUndue : RequestReader A → Kind → Type 0
   IsUndue r kind = Refuses (part_checks r.offer (option_to_list r.command) r.has_format) kind
@@ -67,7 +97,7 @@ module _ {A : Type 0} where
     pub ends : p ≡ flush
     pub once : commands_of lines ≡ command_of new.request ∷ []
     pub checks : Passes (flush_checks old.offer lines)
-    pub asked : asked_of new.request ≡ asked_by (command_of new.request) (arguments_of lines)
+    pub asked : asked_of new.request ≡ asked_by (command_of new.request) (kept_arguments lines)
     pub kept : kept_of new.request ≡ kept_in lines
 
   -- the other end ends the session
@@ -77,12 +107,11 @@ module _ {A : Type 0} where
     pub fresh : InCapabilities [] new
     pub part : new.part ≡ Capabilities
 
-  -- there is no memory for an argument that nothing refuses
+  -- there is no memory for a line that nothing refuses
   pub record LacksMemory (lines : List Line) (old : RequestReader A) (p : Pkt) (kind : Kind) : Type 0 where
-    pub arg : Arg
-    pub long : ℕ
-    pub is_line : IsLine old.offer (limit_in old) lines p (argument arg long)
-    pub takes_memory : TakesMemory arg
+    pub line : Line
+    pub is_line : IsLine old.offer (limit_in old) lines p line
+    pub needs_memory : NeedsMemory line
     pub name : kind ≡ OutOfMemory
 
   abbrev pub Goes : (Arg → Option Kind) → List Line → RequestReader A → Pkt → Result Taken Kind → RequestReader A → Type 0

@@ -6,19 +6,19 @@ use Rattle.git_msg.specs.declared.agent.Agent.{Agent}
 use Rattle.git_msg.specs.declared.offers.Caps.{Caps}
 use Rattle.git_msg.specs.declared.requests.Request.{Request}
 use Rattle.git_msg.specs.declared.writer.Next.{Next}
-use Rattle.git_msg.specs.declared.writer.Next.TheVariants.{CommandLine, AgentLine, ObjectFormat, Delimiter, Argument, Done}
+use Rattle.git_msg.specs.declared.writer.Next.TheVariants.{CommandLine, AgentLine, ServerOption, Delimiter, Argument, Done}
 use Rattle.git_msg.specs.declared.writer.RequestWriter.{RequestWriter}
 use Rattle.git_msg.specs.Agents.{named_if}
 use Rattle.git_msg.specs.Asked.{Asked, arguments_in}
 use Rattle.git_msg.specs.Machine.HeldRequest.{asked_of, format_of}
-use Rattle.git_msg.specs.WrittenRequest.{agent_line, argument_lines, argument_part, format_line, lines_written, where_set}
+use Rattle.git_msg.specs.WrittenRequest.{agent_line, argument_lines, argument_part, lines_written, options_and_rest}
 
--- the packets from this one on: of the arguments, those from this index on
+-- the packets from this one on: of the server options and of the arguments, those from this index on
 abbrev pub lines_from : Next → Agent → Bool → Bool → Format → Asked → List Pkt
 lines_from CommandLine agent named object_format format asked = lines_written (named_if named agent) object_format format asked
-lines_from AgentLine agent named object_format format asked = agent_line agent ∷ where_set object_format (format_line format) (argument_part asked)
-lines_from ObjectFormat agent named object_format format asked = format_line format ∷ argument_part asked
-lines_from Delimiter agent named object_format format asked = argument_part asked
+lines_from AgentLine agent named object_format format asked = agent_line agent ∷ options_and_rest object_format format (arguments_in asked)
+lines_from (ServerOption i) agent named object_format format asked = options_and_rest object_format format (drop i (arguments_in asked))
+lines_from (Delimiter i) agent named object_format format asked = argument_part (drop i (arguments_in asked))
 lines_from (Argument i) agent named object_format format asked = argument_lines (drop i (arguments_in asked))
 lines_from Done agent named object_format format asked = []
 

@@ -3,7 +3,7 @@ use Rattle.git_pkt.specs.Faults.{last_position}
 use Rattle.git_pkt.specs.Streams.{flow}
 use Rattle.git_pkt.specs.Machine.Recorded.{inner_of, reads_of, has_failed, has_ended, has_wasted}
 use Rattle.git2show_lib.specs.Machine.JudgedRequests.{IsReady, bytes_used}
-use Rattle.git_msg.specs.declared.limits.TheConstants.Limits.{USUAL}
+use Rattle.git_msg.specs.declared.limits.TheConstants.Limits.{DEFAULT_ARGS}
 use Rattle.git_client.specs.Parts.{terms_of}
 use Rattle.git_client.specs.Machine.RunSteps.{window_of}
 use Rattle.git2show_lib.proofs.CheckRuns.{Checking}
@@ -13,7 +13,7 @@ use Rattle.git2show_lib.proofs.checking.check.Given as goal
 -- and not used
 abbrev pub invariant-requests : goal.invariant-requests
 invariant-requests g l = record {
-  checking : Checking (terms_of l.fn.format l.fn.ending) USUAL l.client l.asking l.over.passed
+  checking : Checking (terms_of l.fn.format l.fn.ending) DEFAULT_ARGS l.client l.asking l.over.passed
       (window_of l.waiting l.chunk) (window_of l.over.left l.other_chunk)
       (flow (g.Q.Read.remaining (inner_of l.fn.requests)) (g.Q.Read.remaining (inner_of l.requests)))
       (flow (g.R.Read.remaining (inner_of l.fn.responses)) (g.R.Read.remaining (inner_of l.responses)))

@@ -1,6 +1,6 @@
 use Rattle.std.proofs.Common.{◌≡◌, ◌<◌, ◌++◌, length, false}
 use Rattle.std.specs.Vec.Iter.{into_iter_items, into_iter_len}
-use Rattle.git_msg.specs.declared.limits.TheConstants.Limits.{USUAL}
+use Rattle.git_msg.specs.declared.limits.TheConstants.Limits.{DEFAULT_ARGS}
 use Rattle.git_pkt.specs.Machine.Recorded.{inner_of, has_failed}
 use Rattle.git_pkt.specs.Streams.{flow}
 use Rattle.git_client.specs.Parts.{terms_of}
@@ -12,7 +12,7 @@ use Rattle.git2show_lib.proofs.playing.play_each.Given as goal
 -- The requests that came off the vector were asked, and the response to each was received whole: all servers are at rest.
 abbrev pub invariant-loop-request : goal.invariant-loop-request
 invariant-loop-request g l = record {
-  plays : Plays g.R.Repo.state (terms_of (g.R.Repo.state l.fn.repo).answers.format ResponseEnd) USUAL (g.R.Repo.state l.fn.repo)
+  plays : Plays g.R.Repo.state (terms_of (g.R.Repo.state l.fn.repo).answers.format ResponseEnd) DEFAULT_ARGS (g.R.Repo.state l.fn.repo)
       (KeepsRepo g.R.Repo.state (g.R.Repo.state l.fn.repo)) l.yielded l.client l.server
       (flow (g.O.Write.contents (inner_of l.fn.out)) (g.O.Write.contents (inner_of l.out)))
       (flow (g.P.Output.contents l.fn.pack) (g.P.Output.contents l.pack));

@@ -2,6 +2,7 @@ use Rattle.std.proofs.Common.{◌≡◌, [], ◌∷◌, ◌++◌, codes, refl, a
 use Rattle.git_pkt.specs.Packets.{delim, flush}
 use Rattle.git_pkt.specs.Splits.{Given}
 use Rattle.git_msg.specs.Arguments.{with_id}
+use Rattle.git_msg.specs.Lines.{argument}
 use Rattle.git_msg.specs.declared.words.ObjectWord.{ObjectWord}
 use Rattle.git_msg.specs.WrittenRequest.{text_line}
 use Rattle.git_msg.proofs.WholeRequests.{flush_is_no_line, last_same}
@@ -14,12 +15,11 @@ returns-clause-at_a_want c = record {
   front = at 0 (text_line (codes "command=fetch")) ∷ at 18 delim ∷ [];
   last = at 22 (text_line (codes "want " ++ all_a));
   lines = fetch_begun;
-  arg = with_id ObjectWord.Want name_a;
-  long = 45;
+  line = argument (with_id ObjectWord.Want name_a) 45;
   whole = refl;
   taken = (fetch_command 49, ((refl, (tt, tt)), tt));
   is_line = want_line 49 (omega arith);
-  takes_memory = tt;
+  needs_memory = tt;
   name = refl;
   at = refl;
 }

@@ -8,7 +8,7 @@ use Rattle.git_pkt.proofs.Streams.{one_split}
 use Rattle.git2show_lib.specs.Others.{NoneIs, counted_line, is_advertised, is_allowed_key, is_allowed_value, is_other_capability, is_other_command}
 use Rattle.git2show_lib.specs.Others.{first_place, is_own_key, judged_line, line_has, names_other, place_after, place_at_line, place_next}
 use Rattle.git2show_lib.specs.OtherLines.{shown_line}
-use Rattle.git_msg.specs.Lines.{agent}
+use Rattle.git_msg.specs.Lines.{unkept}
 use Rattle.git_rows.specs.Worked.{at}
 use Rattle.git_rows.proofs.RequestLines.{agent_line}
 use Rattle.git_rows.proofs.WrittenPackets.{splits_written}
@@ -29,7 +29,7 @@ returns-clause-behind_a_line c =
         named = named;
         more = at 35 delim ∷ at 39 flush ∷ [];
         parts = refl;
-        begun = (agent ∷ [], (agent_line 0, tt));
+        begun = (unkept ∷ [], (agent_line 0, tt));
         kept = omega arith;
         names = refl;
       };

@@ -1,5 +1,5 @@
-use Rattle.std.proofs.Common.{refl, subst, sym, ◌≡◌, List}
-use Rattle.git_msg.specs.Arguments.{Arg, command_with}
+use Rattle.std.proofs.Common.{refl, subst, sym, List}
+use Rattle.git_msg.specs.Arguments.{Arg, MayHave}
 use Rattle.git_msg.specs.Kept.{AreOf, Kept}
 use Rattle.git_msg.specs.declared.flags.Flag.{Flag}
 use Rattle.git_msg.specs.declared.words.Word.TheVariants.{Flag as of_flag}
@@ -37,4 +37,4 @@ returns-clause-same g c =
 pub returns-clause-own : goal.returns-clause-own
 returns-clause-own g c command all =
     all_stay c.self.inside.lists c.put_in_order.new.self c.put_in_order.ensures.others c.put_in_order.ensures.order.prunes
-    (λ arg. command_with arg ≡ command) (subst (λ (q : Kept (List Arg)). AreOf command q.asked) (sym c.self.view_is) all)
+    (MayHave command) (subst (λ (q : Kept (List Arg)). AreOf command q.asked) (sym c.self.view_is) all)

@@ -11,6 +11,15 @@ use Rattle.git_msg.proofs.StreamSteps.{feeds_with}
 use Rattle.git_server.proofs.RefusedMemory.{memory_after_bytes, memory_after_packet}
 use Rattle.git_server.proofs.server.Server.step.Goals as goal
 
+pub returns-in-More-clause-goes : goal.returns-in-More-clause-goes
+returns-in-More-clause-goes g c =
+    let old = c.args.self.now in
+    let chunk = c.args.chunk.now in
+    let fed = c.feed-fed.result in
+    let feeds = feeds_with old.reader c.feed-fed.follows.lender-at-none chunk fed _ c.in-More.is c.feed-fed.follows.holds-at-none in
+    goes_open g.R.Repo.state old _ (take fed.used chunk) c.requires.wants (record { offer = refl; repo = refl; reads = feeds.reads })
+    refl refl feeds.announces.1
+
 pub returns-in-Packet-clause-goes : goal.returns-in-Packet-clause-goes
 returns-in-Packet-clause-goes g c =
     let old = c.args.self.now in
