@@ -11,6 +11,7 @@ use Rattle.git_pkt.specs.Streams.{Flow, IsTimely}
 use Rattle.git_client.specs.Transcript.{asked_line, next_asked, transcript_from, transcript_of}
 use Rattle.git_client.specs.Machine.Client.{History, Converses, ReceivesOn, can_ask, fault_of, nothing_yet, phase_of, wants_input}
 use Rattle.git_client.specs.Machine.RunSteps.{no_counts, counts_with, CanCount, ReceivesBytes, AsksNext, FaultsInTime}
+use Rattle.git_client.specs.Machine.Running.{IsAnnounced, Along}
 use Rattle.git_client.specs.declared.client.Client.{Client}
 use Rattle.git_client.specs.declared.receiving.Counts.{Counts}
 use Rattle.git_client.proofs.Counting.{bytes_fit}
@@ -20,14 +21,6 @@ use Rattle.git_client.proofs.Packs.{pack_bytes-append}
 use Rattle.git_client.proofs.Phases.{not_ready_where_expected}
 
 -- ---- what a history fixes of the transcript
-
--- Whatever follows, the transcript begins with these lines. If the client can ask, the next request's line follows them; if not, the response goes on
--- after the counted bytes of the pack and of the progress.
-abbrev pub IsAnnounced : Bool → History → List ℕ → Counts → Type 0
-IsAnnounced true h lines counts = (later : List Asked) (more : List EventValue)
-    → transcript_of (h.asked ++ later) (h.events ++ more) ≡ lines ++ next_asked later ++ transcript_from (drop 1 later) 0 0 more
-IsAnnounced false h lines counts = (later : List Asked) (more : List EventValue)
-    → transcript_of (h.asked ++ later) (h.events ++ more) ≡ lines ++ transcript_from later counts.pack counts.progress more
 
 -- events add their lines to these
 lines_announced : (asks : Bool) (h : History) (used : List ℕ) (events : List EventValue) (lines : List ℕ) (counts : Counts) → IsAnnounced false h lines counts
@@ -65,13 +58,6 @@ module _ {A : Type 0} where
         pack = omega (arith, few, all, within, bytes_fit events);
         progress = omega (arith, few, all, within, bytes_fit events);
       }
-
-  -- a client with these terms and this history, its lines of the transcript and its bytes of the pack
-  pub record Along (t : Terms) (h : History) (client : Client A) (lines packed : List ℕ) (counts : Counts) : Type 0 where
-    pub stands : Converses t h client
-    pub announced : IsAnnounced (can_ask client) h lines counts
-    pub pack_is : packed ≡ pack_bytes h.events
-    pub within : counts.pack + counts.progress ≤ length h.events
 
   -- before the first byte
   pub along_begun : (t : Terms) (client : Client A) → wants_input client ≡ true → Converses t nothing_yet client

@@ -1,5 +1,5 @@
 -- Requests that were asked, each in its turn, and each allowed by what was advertised.
-use Rattle.std.proofs.Common.{arith, ◌≡◌, ◌⊎◌, inl, inr, ℕ, ◌≤◌, true, All, List, [], ◌∷◌, ◌++◌, length, map}
+use Rattle.std.proofs.Common.{arith, ◌≡◌, inl, inr, ℕ, true, All, List, [], ◌∷◌, ◌++◌, length, map}
 use Rattle.std.proofs.Common.{refl, sym, ap, ◌∙◌, subst, append_assoc, append-nil, length-append}
 use Rattle.std.proofs.lemmas.List.{map-append, nil_from_length}
 use Rattle.std.proofs.lemmas.List.Elements.{All-cons, All-head, All-nil, All-push, All-tail}
@@ -11,10 +11,11 @@ use Rattle.git_msg.specs.Machine.HeldRequest.{asked_of}
 use Rattle.git_msg.specs.declared.offers.Caps.{Caps}
 use Rattle.git_msg.specs.declared.requests.Request.{Request}
 use Rattle.git_client.specs.Parts.{Terms, advertisement_of, nearest}
-use Rattle.git_client.specs.Events.{EventValue, turns_of}
-use Rattle.git_client.specs.Conversation.{HasNoted, IsConversation}
+use Rattle.git_client.specs.Events.{EventValue}
+use Rattle.git_client.specs.Conversation.{HasNoted}
 use Rattle.git_client.specs.Machine.Client.{History, Converses, ask_checks, can_ask, caps_of, format_of}
 use Rattle.git_client.specs.Machine.Runs.{HasAsked}
+use Rattle.git_client.specs.Machine.Running.{AskedInTurn, MayAsk, MayBeAsked}
 use Rattle.git_client.specs.declared.client.Client.{Client}
 use Rattle.git_client.proofs.CanAsk.{can_ask_announces}
 use Rattle.git_client.proofs.EventsReceived.{has_noted, is_whole}
@@ -41,34 +42,12 @@ abbrev pub HasCommand : Caps → Asked → Type 0
 HasCommand caps q = offers_command caps (command_asked q) ≡ true
 
 module _ {A : Type 0} (t : Terms) where
-  -- the request is allowed by these advertised capabilities
-  abbrev pub MayAsk : Caps → Request A → Type 0
-  MayAsk caps request = Passes (ask_checks t.format caps request)
-
-  -- These bytes begin with a whole conversation, and its advertisement allows each of the requests.
-  pub record MayBeAsked (asked : List Asked) (used : List ℕ) (front : List (Request A)) : Type 0 where
-    pub first : List Asked
-    pub begun : List ℕ
-    pub events : List EventValue
-    pub whole : IsConversation t first begun events
-    pub more : List Asked
-    pub later : List ℕ
-    pub asked_is : asked ≡ first ++ more
-    pub used_is : used ≡ begun ++ later
-    pub passes : All (MayAsk (noted_of (advertisement_of (nearest whole.given [])))) front
-
-  -- exactly these requests were asked: at most one for the advertisement, and one for each whole response
-  pub record AskedInTurn (asked : List Asked) (used : List ℕ) (events : List EventValue) (front : List (Request A)) : Type 0 where
-    pub are : asked ≡ map asked_of front
-    pub in_turn : length asked ≤ turns_of events
-    pub may_be : (front ≡ []) ⊎ MayBeAsked asked used front
-
-  pub none_in_turn : AskedInTurn [] [] [] []
+  pub none_in_turn : AskedInTurn {A = A} t [] [] [] []
   none_in_turn = record { are = refl; in_turn = omega arith; may_be = inl refl }
 
   -- more bytes were used
   pub received_in_turn : (asked : List Asked) (used more : List ℕ) (events now : List EventValue) (front : List (Request A))
-      → AskedInTurn asked used events front → AskedInTurn asked (used ++ more) (events ++ now) front
+      → AskedInTurn t asked used events front → AskedInTurn t asked (used ++ more) (events ++ now) front
   received_in_turn asked used more events now front h = record {
     are = h.are;
     in_turn = omega (arith, h.in_turn, turns-append events now);
@@ -97,7 +76,7 @@ module _ {A : Type 0} (t : Terms) where
         subst (λ (c : Caps). Passes (ask_checks t.format c request)) same
         (subst (λ (f : Format). Passes (ask_checks f (caps_of client) request)) stands.format_is passes)
 
-    may_be_first : front ≡ [] → MayBeAsked (h.asked ++ asked_of request ∷ []) h.used (front ++ request ∷ [])
+    may_be_first : front ≡ [] → MayBeAsked t (h.asked ++ asked_of request ∷ []) h.used (front ++ request ∷ [])
     may_be_first none =
         let whole = is_whole t h client stands ready in
         let caps = noted_of (advertisement_of (nearest whole.given [])) in
@@ -113,10 +92,10 @@ module _ {A : Type 0} (t : Terms) where
           later = [];
           asked_is = refl;
           used_is = sym (append-nil h.used);
-          passes = All-push (MayAsk caps) front request (subst (All (MayAsk caps)) (sym none) (All-nil (MayAsk caps))) (passes_by caps same);
+          passes = All-push (MayAsk t caps) front request (subst (All (MayAsk t caps)) (sym none) (All-nil (MayAsk t caps))) (passes_by caps same);
         }
 
-    may_be_next : (m : MayBeAsked h.asked h.used front) → MayBeAsked (h.asked ++ asked_of request ∷ []) h.used (front ++ request ∷ [])
+    may_be_next : (m : MayBeAsked t h.asked h.used front) → MayBeAsked t (h.asked ++ asked_of request ∷ []) h.used (front ++ request ∷ [])
     may_be_next m =
         let caps = noted_of (advertisement_of (nearest m.whole.given [])) in
         let same : caps_of client ≡ caps =
@@ -130,11 +109,11 @@ module _ {A : Type 0} (t : Terms) where
           later = m.later;
           asked_is = ap (λ (l : List Asked). l ++ asked_of request ∷ []) m.asked_is ∙ append_assoc m.first m.more (asked_of request ∷ []);
           used_is = m.used_is;
-          passes = All-push (MayAsk caps) front request m.passes (passes_by caps same);
+          passes = All-push (MayAsk t caps) front request m.passes (passes_by caps same);
         }
 
-    pub asked_in_turn : AskedInTurn h.asked h.used h.events front
-        → AskedInTurn (h.asked ++ asked_of request ∷ []) h.used h.events (front ++ request ∷ [])
+    pub asked_in_turn : AskedInTurn t h.asked h.used h.events front
+        → AskedInTurn t (h.asked ++ asked_of request ∷ []) h.used h.events (front ++ request ∷ [])
     asked_in_turn a =
         let turn = ((can_ask_announces client true ready t h stands).0 refl).2 in
         record {
@@ -144,31 +123,31 @@ module _ {A : Type 0} (t : Terms) where
         }
 
   -- so the advertisement allows each request
-  pub may_be_asked : (asked : List Asked) (used : List ℕ) (events : List EventValue) (front : List (Request A)) → AskedInTurn asked used events front
-      → (caps : Caps) → HasNoted t asked used caps → All (MayAsk caps) front
+  pub may_be_asked : (asked : List Asked) (used : List ℕ) (events : List EventValue) (front : List (Request A)) → AskedInTurn t asked used events front
+      → (caps : Caps) → HasNoted t asked used caps → All (MayAsk t caps) front
   may_be_asked asked used events front a caps noted = elim a.may_be [
-    | inl none ↦ subst (All (MayAsk caps)) (sym none) (All-nil (MayAsk caps))
-    | inr m ↦ subst (λ (c : Caps). All (MayAsk c) front)
+    | inl none ↦ subst (All (MayAsk t caps)) (sym none) (All-nil (MayAsk t caps))
+    | inr m ↦ subst (λ (c : Caps). All (MayAsk t c) front)
         (sym (noted_at t m.first m.begun m.events m.whole m.more asked m.later used caps m.asked_is m.used_is noted)) m.passes
   ]
 
   -- and advertises the command of each
-  commands_of_each : (caps : Caps) (front : List (Request A)) → All (MayAsk caps) front
+  commands_of_each : (caps : Caps) (front : List (Request A)) → All (MayAsk t caps) front
       → All (HasCommand caps) (map asked_of front)
   commands_of_each caps [] all = All-nil (HasCommand caps)
   commands_of_each caps (request ∷ front) all =
-      All-cons (HasCommand caps) (asked_of request) (map asked_of front) (All-head (MayAsk caps) request front all).1.0
-      (commands_of_each caps front (All-tail (MayAsk caps) request front all))
+      All-cons (HasCommand caps) (asked_of request) (map asked_of front) (All-head (MayAsk t caps) request front all).1.0
+      (commands_of_each caps front (All-tail (MayAsk t caps) request front all))
 
   pub commands_advertised : (asked : List Asked) (used : List ℕ) (events : List EventValue) (front : List (Request A))
-      → AskedInTurn asked used events front → (caps : Caps) → HasNoted t asked used caps
+      → AskedInTurn t asked used events front → (caps : Caps) → HasNoted t asked used caps
       → All (HasCommand caps) asked
   commands_advertised asked used events front a caps noted =
       subst (All (HasCommand caps)) (sym a.are)
       (commands_of_each caps front (may_be_asked asked used events front a caps noted))
 
   -- the requests that were asked are the first of these
-  pub has_asked : (requests front rest : List (Request A)) (h : History) → requests ≡ front ++ rest → AskedInTurn h.asked h.used h.events front
+  pub has_asked : (requests front rest : List (Request A)) (h : History) → requests ≡ front ++ rest → AskedInTurn t h.asked h.used h.events front
       → HasAsked t requests rest h
   has_asked requests front rest h split a = record {
     front = front;

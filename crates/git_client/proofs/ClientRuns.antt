@@ -25,19 +25,20 @@ use Rattle.git_pkt.specs.Streams.{Flow, flow, WrittenAs, Moves, is_broken}
 use Rattle.git_client.specs.Machine.RunSteps.{ReceivesFrom, ReceivesResponse, ReceivesWholeResponse, SendsPackets, AsksNext, AsksNot, AsksTo}
 use Rattle.git_client.specs.Machine.RunSteps.{FaultsInTime, no_counts, window_of}
 use Rattle.git_client.specs.Machine.Runs.{leaves_last, HasSent, IsBrokenRun, IsInterrupted, IsRefusedRequest, IsWholeRun, EndsAs, Conversed}
+use Rattle.git_client.specs.Machine.Running.{IsAnnounced, AskedInTurn, Running}
 use Rattle.git_client.specs.declared.client.Client.{Client}
 use Rattle.git_client.specs.declared.events.Ending.{Ending}
 use Rattle.git_client.specs.declared.events.Ending.TheVariants.{FlushOnly, ResponseEnd}
 use Rattle.git_client.specs.declared.receiving.Counts.{Counts}
 use Rattle.git_client.specs.declared.receiving.Window.{Window}
 use Rattle.git_client.proofs.Alongs.{in_time_where_sound, in_time_where_announced}
-use Rattle.git_client.proofs.Alongs.{IsAnnounced, Along, along_anew, along_asked, along_begun, along_received, counts_on}
+use Rattle.git_client.proofs.Alongs.{along_anew, along_asked, along_begun, along_received, counts_on}
 use Rattle.git_client.proofs.Counting.{progress_bytes-append}
 use Rattle.git_client.proofs.Carries.{is_quiet, not_left, nothing_unsent}
 use Rattle.git_client.proofs.Phases.{sound_where_expected, sound_where_ready, quiet_where_expected, quiet_where_failed, quiet_where_ready}
 use Rattle.git_client.proofs.EventsReceived.{has_noted, awaits_more, is_whole, position_is, all_is_sent}
 use Rattle.git_client.proofs.Faults.{first_fault}
-use Rattle.git_client.proofs.AskedInTurn.{AskedInTurn, asked_in_turn, has_asked, received_in_turn, none_in_turn}
+use Rattle.git_client.proofs.AskedInTurn.{asked_in_turn, has_asked, received_in_turn, none_in_turn}
 
 -- ---- what was read and written
 
@@ -106,21 +107,6 @@ module _ (before after others : Bool) (sound : before ≡ false) where
 
 module _ {A : Type 0} where
   -- ---- a run so far
-
-  -- A run with this history that can go on: it asked these first requests, read the used and the unused bytes, and wrote to each stream what belongs
-  -- there.
-  pub record Running (broken : Bool) (t : Terms) (h : History) (front : List (Request A)) (client : Client A) (counts : Counts) (unused : List ℕ)
-      (reader writer out pack progress : Flow) : Type 0 where
-    pub lines : List ℕ
-    pub packed : List ℕ
-    pub along : Along t h client lines packed counts
-    pub stays : h.left ≡ false
-    pub in_turn : AskedInTurn t h.asked h.used h.events front
-    pub read : Consumes reader.before reader.after (h.used ++ unused)
-    pub content : WrittenAs broken writer h.given
-    pub announced : WrittenAs broken out lines
-    pub sent : WrittenAs broken pack packed
-    pub reported : WrittenAs broken progress (progress_bytes h.events)
 
   -- the same for a run that ends here
   pub record Ran (broken : Bool) (t : Terms) (h : History) (front : List (Request A)) (client : Client A) (unused : List ℕ)

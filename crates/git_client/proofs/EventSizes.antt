@@ -207,7 +207,7 @@ read_fits packfile format text events h within = absurd h
 read_fits response_end format text events h within = absurd h
 
 -- bytes on a band are parts of one byte each
-each_one : (event : ℕ → EventValue) (bytes : List ℕ) → ((byte : ℕ) → parts_length (event byte) ≡ 1) → all_parts_length (map event bytes) ≡ length bytes
+pub each_one : (event : ℕ → EventValue) (bytes : List ℕ) → ((byte : ℕ) → parts_length (event byte) ≡ 1) → all_parts_length (map event bytes) ≡ length bytes
 each_one event [] one = refl
 each_one event (byte ∷ bytes) one =
     let more : all_parts_length (map event (byte ∷ bytes)) ≡ parts_length (event byte) + all_parts_length (map event bytes) =

@@ -22,6 +22,8 @@ pub mod Closed
 pub mod Determined
 pub mod Writing
 pub mod EventLines
+pub mod RowSpace
+pub mod GatheredRows
 pub mod Faults
 pub mod OneFault
 pub mod Packs
@@ -38,6 +40,7 @@ pub mod ResponseRules
 pub mod ConversationRules
 pub mod WaitingLines
 pub mod ReceivingSteps
+pub mod GatheredChunks
 pub mod SendingSteps
 pub mod ReceivingBytes
 pub mod Notes

@@ -74,7 +74,7 @@ module _ {A : Type 0} where
     receives_by : (got : ReceivedGot) → arrived.got ≡ got → ReceivesOn b (take arrived.used (left chunk done)) (events_of got) c
     receives_by got is = subst (λ (x : ReceivedGot). ReceivesOn b (take arrived.used (left chunk done)) (events_of x) c) is feeds.arrives
 
-    announces_by : (got : ReceivedGot) → arrived.got ≡ got → Announces got arrived.used (left chunk done) b c
+    pub announces_by : (got : ReceivedGot) → arrived.got ≡ got → Announces got arrived.used (left chunk done) b c
     announces_by got is = subst (λ (x : ReceivedGot). Announces x arrived.used (left chunk done) b c) is feeds.announces
 
     rest_length : length (left chunk done) ≡ length chunk - done
@@ -109,13 +109,13 @@ module _ {A : Type 0} where
         }
 
     -- an error occurred, which the chunk shows
-    shown_where_failed : (fault : Fault) → arrived.got ≡ Failed fault → ShownByFeed fault (done + arrived.used) chunk
+    pub shown_where_failed : (fault : Fault) → arrived.got ≡ Failed fault → ShownByFeed fault (done + arrived.used) chunk
     shown_where_failed fault is =
         let shown = feeds.news fault (sound_where_expected (phase_of b) waits) is in
         record { not_the_end = shown.not_the_end; one_more = λ e. omega (arith, shown.one_more e, rest_length) }
 
     -- and the streams were flushed, or one of the flushes failed
-    received_failed_then : (broken : Bool) (fault : Fault) (announced_after sent_after reported_after : Option (List ℕ)) → arrived.got ≡ Failed fault
+    pub received_failed_then : (broken : Bool) (fault : Fault) (announced_after sent_after reported_after : Option (List ℕ)) → arrived.got ≡ Failed fault
         → WrittenAs false (flow announced announced_after) [] → WrittenAs false (flow sent sent_after) [] → WrittenAs false (flow reported reported_after) []
         → ReceivesBytes broken old c counts now (take (done + arrived.used) chunk) (flow announced_before announced_after) (flow sent_before sent_after)
         (flow reported_before reported_after)

@@ -1,5 +1,5 @@
 -- A client with the same fields is the same, whatever shows what holds of them.
-use Rattle.std.proofs.Common.{◌≡◌, ◌≢◌, ◌∙◌, ◌≤◌, true, false, [], None, ap, refl, subst, sym}
+use Rattle.std.proofs.Common.{◌≡◌, ◌≢◌, ◌∙◌, ◌≤◌, true, false, [], None, ap, subst, sym}
 use Rattle.std.proofs.Props.{props}
 use Rattle.std.specs.Option.{ForSome}
 use Rattle.git_pkt.specs.Machine.BandReader.{MayPass}

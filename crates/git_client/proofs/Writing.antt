@@ -86,7 +86,7 @@ AreSame [] [] = Unit {0}
 AreSame (bytes ∷ more) (others ∷ rest) = (bytes ≡ others) × AreSame more rest
 AreSame _ _ = ⊥
 
-line_same : (given shown : List (List ℕ)) → AreSame given shown → line_by given ≡ line_by shown
+pub line_same : (given shown : List (List ℕ)) → AreSame given shown → line_by given ≡ line_by shown
 line_same [] [] same = refl
 line_same (bytes ∷ more) (others ∷ rest) (same, all) = ap₂ (λ (l m : List ℕ). l ++ m) same (line_same more rest all)
 line_same [] (others ∷ rest) same = absurd same

@@ -4,7 +4,9 @@ pub mod Client
 pub mod Choosing
 pub mod HandedOut
 pub mod LineParts
+pub mod Gathered
 pub mod Runs
 pub mod RunSteps
+pub mod Running
 pub mod Calls
 pub mod AnyCalls

@@ -1,12 +1,13 @@
 //! A client run over a reader and a writer.
 
-ghost use Rattle.std.specs.Prelude.{◌≡◌, ◌≤◌, ◌<◌, ◌||◌, ◌∷◌, [], length, None, true, false, IsTrue, IfErr, is_err};
+ghost use Rattle.std.specs.Prelude.{◌≡◌, ◌≤◌, ◌<◌, ◌||◌, ◌∷◌, [], length, None, true, false, IsTrue, IfErr, MatchResult, is_err};
 ghost use Rattle.git_pkt.specs.Machine.Recorded.{inner_of, reads_of, has_failed, has_ended, has_wasted, IsNew};
 ghost use Rattle.git_pkt.specs.Machine.Engine.{FailsAs, IsShownBy, IsSpent};
 ghost use Rattle.git_pkt.specs.Streams.{flow, is_broken, Moves};
 ghost use Rattle.git_client.specs.Parts.{Terms};
 ghost use Rattle.git_client.specs.Machine.Client.{Converses, nothing_yet, can_ask, wants_input, fault_of};
-ghost use Rattle.git_client.specs.Machine.RunSteps.{AsksTo, SendsPackets};
+ghost use Rattle.git_client.specs.Machine.Gathered.{dropped};
+ghost use Rattle.git_client.specs.Machine.RunSteps.{AsksNext, AsksNot, AsksTo, SendsPackets};
 ghost use Rattle.git_client.specs.Machine.Runs.{Conversed, IsHandedBack};
 
 use crate::client::Client;
@@ -14,7 +15,7 @@ use crate::events::{Ending, Sent};
 use crate::receiving::{Window, receive_response};
 use crate::transcript::write_asked;
 use git_msg::Request;
-use git_pkt::{Output, Recorded, RunFault, flush};
+use git_pkt::{Discard, Fault, Output, Recorded, RunFault, flush};
 use std::alloc::Allocator;
 use std::io::{Read, Write};
 
@@ -102,6 +103,26 @@ pub fn ask_next<W: Output, O: Write, A: Allocator + Copy>(
     }
     write_asked(out, command)?;
     send_all(client, writer)
+}
+
+/// Asks a request whose packets nobody needs: the client receives the response next.
+///
+/// The error is that of [`Client::ask`].
+pub fn ask_unsent<A: Allocator + Copy>(
+    client: &mut Client<A>,
+    request: Request<A>,
+) -> Result<(), Fault>
+    requires { can_ask client.old ≡ true }
+    ensures { MatchResult result (λ _. AsksNext false client.old client.new request dropped dropped × (wants_input client.new ≡ true))
+        (λ fault. AsksNot fault client.old client.new request dropped dropped) }
+{
+    if let Err((_, refusal)) = client.ask(request) {
+        return Err(refusal);
+    }
+    match send_all(client, &mut Discard) {
+        Ok(()) => Ok(()),
+        Err(_) => unreachable!(),
+    }
 }
 
 /// Sends all packets that the client has to send.

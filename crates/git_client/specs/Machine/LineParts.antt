@@ -1,5 +1,5 @@
 -- The parts of a written line of text, and lines that wait for their writer.
-use Rattle.std.specs.Prelude.{◌≡◌, ℕ, Bool, false, List, [], ◌∷◌, ◌++◌, codes, decimal, Option, Some, None}
+use Rattle.std.specs.Prelude.{◌≡◌, ℕ, ◌+◌, ◌*◌, length, Bool, false, List, [], ◌∷◌, ◌++◌, codes, decimal, Option, Some, None}
 use Rattle.git_names.specs.ObjectName.{ObjectName, hex_of}
 use Rattle.git_pkt.specs.Escape.{escaped_of}
 use Rattle.git_pkt.specs.Streams.{Flow, WrittenAs}
@@ -18,6 +18,22 @@ part_shown (Number word number) = word.now ++ decimal number
 abbrev pub line_shown : List Part → List ℕ
 line_shown [] = codes "\n"
 line_shown (part ∷ parts) = part_shown part ++ line_shown parts
+
+-- how much space is reserved for a part: four bytes for each that is escaped
+abbrev pub space_of : Part → ℕ
+space_of (Word word) = length word.now
+space_of (Text word text) = length word.now + 4 * length text.now
+space_of (Name word id) = length word.now + 64
+space_of (Number word number) = length word.now + 20
+
+-- and for the line of the parts
+abbrev pub space_for : List Part → ℕ
+space_for [] = 1
+space_for (part ∷ parts) = space_of part + space_for parts
+
+-- the line of an event takes no more
+abbrev pub longest_line : ℕ
+longest_line = 262320
 
 -- the object of an event after its word: a reference without one is unborn
 abbrev pub object_shown : EventKind → Option ObjectName → List ℕ

@@ -5,7 +5,7 @@ use Rattle.git_pkt.specs.Streams.{flow}
 use Rattle.git_client.specs.Parts.{Terms}
 use Rattle.git_client.specs.Machine.Client.{History, Converses, nothing_yet, can_ask}
 use Rattle.git_client.specs.Machine.RunSteps.{no_counts, window_of}
-use Rattle.git_client.proofs.ClientRuns.{Running}
+use Rattle.git_client.specs.Machine.Running.{Running}
 use Rattle.git_client.proofs.conversing.converse.Given as goal
 
 -- The requests taken off the vector were asked, and each of their responses was received whole. The bytes that wait in the chunk are those that were
