@@ -18,7 +18,7 @@ use Rattle.git_pkt.proofs.EngineLemmas.{written_then}
 use Rattle.git_pkt.proofs.Spelling.{none_begins_nothing}
 use Rattle.git_msg.specs.Requests.{IsStop}
 use Rattle.git_msg.specs.declared.requests.Request.{Request}
-use Rattle.git_client.specs.Machine.Client.{History, Converses, bytes_used as client_bytes, can_ask, spelled}
+use Rattle.git_client.specs.Machine.Client.{History, Converses, bytes_used as client_bytes, can_ask}
 use Rattle.git_client.specs.Machine.Client.{wants_input}
 use Rattle.git_client.specs.Parts.{Terms}
 use Rattle.git_client.specs.Events.{EventValue}
@@ -27,7 +27,8 @@ use Rattle.git_client.specs.declared.receiving.Counts.{Counts}
 use Rattle.git_client.specs.declared.client.Client.{Client}
 use Rattle.git_client.specs.declared.receiving.Window.{Window}
 use Rattle.git_client.proofs.AskedInTurn.{commands_advertised}
-use Rattle.git_client.proofs.ClientRuns.{Running, ran, begins, asks_on, read_on, refused_next}
+use Rattle.git_client.specs.Machine.Running.{Running}
+use Rattle.git_client.proofs.ClientRuns.{ran, asks_on, read_on, refused_next}
 use Rattle.git_client.proofs.EventsReceived.{awaits_more, has_events, is_whole, position_is}
 use Rattle.git_client.proofs.Faults.{first_fault}
 use Rattle.git2show_lib.specs.Others.{Advertised, judged_of}
@@ -46,7 +47,6 @@ use Rattle.git2show_lib.specs.Machine.CheckedStreams.{bytes_begun, events_shown,
 use Rattle.git2show_lib.specs.Machine.CheckedStreams.{placed_result, questions_in, turns_shown, whole_of}
 use Rattle.git2show_lib.specs.Machine.TurnSteps.{AnswersTo, AsksJudged, AsksShown, PassesOtherTo, ReceivesNot}
 use Rattle.git2show_lib.specs.Machine.Sieving.{BreaksOffAt, IsRefusedBefore, IsRefusedBy, Sieves, SievesTo}
-use Rattle.git2show_lib.specs.Sieve.{sieved}
 use Rattle.git2show_lib.specs.declared.asking.Remaining.{Remaining}
 use Rattle.git2show_lib.specs.declared.sieve.Form.{Form}
 use Rattle.git2show_lib.specs.Machine.KeptLines.{noted_in}
@@ -61,9 +61,10 @@ use Rattle.git2show_lib.specs.declared.checking.CheckFault.{CheckFault}
 use Rattle.git2show_lib.specs.declared.checking.CheckFault.TheVariants.{Requests, Responses}
 use Rattle.git2show_lib.specs.declared.checking.CheckFault.TheVariants.{ReadFault as CheckReadFault, WriteFault as CheckWriteFault}
 use Rattle.git2show_lib.specs.declared.checking.CheckFault.TheVariants.{ReadLimit as CheckReadLimit}
-use Rattle.git2show_lib.proofs.CheckRuns.{Awaiting, Checking, Reading, advertised, asks_within, bytes_received, counted_place, form_expected}
+use Rattle.git2show_lib.specs.Machine.Checking.{Checking, Reading, silent}
+use Rattle.git2show_lib.proofs.CheckRuns.{Awaiting, asks_within, bytes_received, counted_place, form_expected}
 use Rattle.git2show_lib.proofs.CheckRuns.{found_in, known_on}
-use Rattle.git2show_lib.proofs.CheckRuns.{lines_written, none_asked, place_is, reads_on, response_expected, silent, still_offered, turn_of, uses_of}
+use Rattle.git2show_lib.proofs.CheckRuns.{lines_written, place_is, reads_on, response_expected, still_offered, turn_of, uses_of}
 
 -- which of its streams failed, and what shows it, is the same of a fault and of what is reported of it
 announced_as : (S T : Type 0) (own : RunFault) (place : ℕ) (fault : CheckFault) (read written : Bool) → fault ≡ placed place own

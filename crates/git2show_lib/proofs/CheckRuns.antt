@@ -24,7 +24,8 @@ use Rattle.git_client.specs.declared.receiving.Counts.{Counts}
 use Rattle.git_client.specs.declared.client.Client.{Client}
 use Rattle.git_client.specs.declared.receiving.Window.{Window}
 use Rattle.git_client.proofs.Alongs.{counts_on}
-use Rattle.git_client.proofs.ClientRuns.{Running, anew, begins, asks_on, receives_on, read_on}
+use Rattle.git_client.specs.Machine.Running.{Running}
+use Rattle.git_client.proofs.ClientRuns.{anew, begins, asks_on, receives_on, read_on}
 use Rattle.git_client.proofs.EventsReceived.{has_noted, is_whole, position_is}
 use Rattle.git2show_lib.specs.Others.{Advertised, HasLines}
 use Rattle.git2show_lib.specs.Machine.JudgedRequests.{HasRead, AreAskedBy, advertised_by, bytes_used, limit_of, offer_of, question_of}
@@ -33,6 +34,7 @@ use Rattle.git2show_lib.specs.Machine.Noting.{AreLost, HasNotedLines, IsLost}
 use Rattle.git2show_lib.specs.declared.judged_requests.JudgedRequests.{JudgedRequests}
 use Rattle.git2show_lib.specs.declared.noting.Noting.{Noting}
 use Rattle.git2show_lib.specs.Machine.CheckSteps.{ReadsOn, ReadsRequest, ReadsWhole}
+use Rattle.git2show_lib.specs.Machine.Checking.{Checking, Reading, silent}
 use Rattle.git2show_lib.specs.Machine.CheckedStreams.{AllEnded, AreReceived, AreUnread, Comes}
 use Rattle.git2show_lib.specs.Machine.CheckedStreams.{Found, Receives, ReceivesAll}
 use Rattle.git2show_lib.specs.Machine.CheckedStreams.{last_form, place_after}
@@ -50,12 +52,6 @@ use Rattle.git2show_lib.specs.Machine.OtherAnswers.{PassesWhole, Uses}
 use Rattle.git2show_lib.specs.declared.other_answers.Passed.{Passed}
 use Rattle.git2show_lib.proofs.Turns.{received_with, passed_snoc, questions_snoc, shown_with, stops_once, whole_with, with_turn}
 use Rattle.git2show_lib.proofs.Turns.{form_snoc}
-
--- ---- what was read and written
-
--- where the packets that are asked, the packs and the progress go: nowhere
-abbrev pub silent : Flow
-silent = flow None None
 
 -- ---- what an advertisement offers
 
@@ -128,13 +124,6 @@ module _ {A : Type 0} (t : Terms) where
   module _ (limit : ℕ) where
     -- ---- a check so far
 
-    -- of the requests these bytes were used, which ask for these, and these wait
-    pub record Reading (asked : List Question) (stream : JudgedRequests A) (waiting : List ℕ) (requests : Flow) : Type 0 where
-      pub used : List ℕ
-      pub has_read : HasRead used asked stream
-      pub read : Consumes requests.before requests.after (used ++ waiting)
-      pub limit_is : limit_of stream ≡ limit
-
     -- a response is expected, in this form: the advertisement, or that to the last of the requests that were read. Whatever comes of it and whatever a
     -- client receives of that, these are all bytes of the responses then, and all lines.
     pub record Awaiting (broken : Bool) (form : Option Form) (front : List (Request A)) (client : Client A) (waiting : List ℕ)
@@ -162,23 +151,6 @@ module _ {A : Type 0} (t : Terms) where
       pub shown_is : (b c : List ℕ) (e : List EventValue) → received_shown (grown b c e) ≡ lines ++ events_shown e
       pub received : (b c : List ℕ) (e : List EventValue) (all : Bool) → Receives form b c → IsOneTurn e all
           → AreReceived t h.asked (h.used ++ c) (h.events ++ e) (grown b c e)
-
-    -- the next request can come: those that were read came in turn, and what came for each is whole
-    pub record Checking (client : Client A) (stream : JudgedRequests A) (count : ℕ) (held waiting : List ℕ) (requests responses out : Flow) : Type 0 where
-      pub front : List (Request A)
-      pub h : History
-      pub r : Received
-      pub runs : Running false t h front client no_counts [] silent silent silent silent silent
-      pub reading : Reading (questions_in r.turns) stream held requests
-      pub read_so_far : Consumes responses.before responses.after (whole_of r ++ waiting)
-      pub announced : WrittenAs false out (received_shown r)
-      pub received : AreReceived t h.asked h.used h.events r
-      pub greeted : IsOneTurn r.greeting true
-      pub ended : AllEnded t r.turns
-      pub nothing_begun : r.begun ≡ None
-      pub counts : count ≡ min (passed_in r.turns) 18446744073709551615
-      pub offered : IsOffered t h.used (advertised_by stream)
-      pub ready : can_ask client ≡ true
 
 -- what a client received, apart from what was read of the responses and written
 module _ {A : Type 0} where

@@ -1,6 +1,8 @@
 -- A reader of requests of another client, a packet at a time.
 use Rattle.std.proofs.Common.{◌≡◌, ◌≢◌, ◌⊎◌, ℕ, ◌+◌, ◌<◌, ◌≤◌, min, true, false, List, [], ◌∷◌, ◌++◌, length, take, Option, Some, None}
 use Rattle.std.proofs.Common.{refl, sym, ap, ◌∙◌, subst, append-nil, inl, inr, arith}
+use Rattle.std.proofs.Props.{props}
+use Rattle.std.proofs.Math.Logic.{∥∥₁_elim, ∥∥₁_prop}
 use Rattle.git_pkt.specs.Packets.{Pkt, flush, delim, resp_end, payload}
 use Rattle.git_pkt.specs.Splits.{Given, SpellsAll}
 use Rattle.git_pkt.specs.Machine.PacketReader.{Reads, ReadsOn, ShownByFeed, fault_of as packet_fault, is_open, passes_of, position_of}
@@ -519,17 +521,21 @@ same_noted {A} got other next same = ap (λ (o : ReadGot A). noted_brought o nex
 
 module _ {A : Type 0} where
   taken_behind : (old new : RequestReader A) (g : Given) (got : ReadGot A) → Brings nothing_barred old g got new
-      → takes_bytes (stage_brought got) ≡ true → HasTaken old → (reader_fault new ≡ None) × HasTaken new
-  taken_behind old new g More brings on (left, takes) = (brings.leaves, (left ++ g ∷ [], (brings.brings left takes).0))
-  taken_behind old new g (Request request) brings on (left, takes) = (brings.leaves, ([], (brings.brings left takes).0))
-  taken_behind old new g Stop brings on (left, takes) = absurd (cc)
-  taken_behind old new g (Failed fault) brings on (left, takes) = absurd (cc)
+      → takes_bytes (stage_brought got) ≡ true → ∥ HasTaken old ∥₁ → (reader_fault new ≡ None) × ∥ HasTaken new ∥₁
+  taken_behind old new g More brings on taken = (
+    brings.leaves,
+    ∥∥₁_elim taken ∥∥₁_prop (λ (h : HasTaken old). let (left, takes) = h in ∣ (left ++ g ∷ [], (brings.brings left takes).0) ∣₁),
+  )
+  taken_behind old new g (Request request) brings on taken =
+      (brings.leaves, ∥∥₁_elim taken ∥∥₁_prop (λ (h : HasTaken old). let (left, takes) = h in ∣ ([], (brings.brings left takes).0) ∣₁))
+  taken_behind old new g Stop brings on taken = absurd (cc)
+  taken_behind old new g (Failed fault) brings on taken = absurd (cc)
 
 module _ {A : Type 0} (old new : JudgedRequests A) (used : ℕ) (ready : IsJudging old.judge) (some : 0 < used)
     (sound : packet_fault new.packets ≡ None) (gathers : passes_of new.packets ≡ false) (same_offer : new.judge.offer ≡ old.judge.offer)
     (same_limit : new.judge.limits.args ≡ old.judge.limits.args) where
   -- it goes on
-  ready_with : takes_bytes new.judge.stage ≡ true → reader_fault new.judge.requests ≡ None → HasTaken new.judge.requests
+  ready_with : takes_bytes new.judge.stage ≡ true → reader_fault new.judge.requests ≡ None → ∥ HasTaken new.judge.requests ∥₁
       → offer_in new.judge.requests ≡ offer_in old.judge.requests
       → limit_in new.judge.requests ≡ limit_in old.judge.requests → new.judge.kept ≤ old.judge.limits.args → IsReady new
   ready_with wants open_ended taken offer limit kept = record {
@@ -549,7 +555,7 @@ module _ {A : Type 0} (old new : JudgedRequests A) (used : ℕ) (ready : IsJudgi
   -- with the reader inside as it was
   ready_still : new.judge.requests ≡ old.judge.requests → new.judge.kept ≤ old.judge.limits.args → takes_bytes new.judge.stage ≡ true → IsReady new
   ready_still same kept wants =
-      ready_with wants (rw same ready.open_ended) (subst (λ (r : RequestReader A). HasTaken r) (sym same) ready.taken)
+      ready_with wants (rw same ready.open_ended) (subst (λ (r : RequestReader A). ∥ HasTaken r ∥₁) (sym same) ready.taken)
       (ap (λ (r : RequestReader A). offer_in r) same) (ap (λ (r : RequestReader A). limit_in r) same) kept
 
   -- or with a new one
@@ -558,7 +564,7 @@ module _ {A : Type 0} (old new : JudgedRequests A) (used : ℕ) (ready : IsJudgi
       → new.judge.kept ≡ 0 → StepLeaves {A = A} Got.More used new
   named_leaves is open_ended takes offer limit kept = (
     some,
-    ready_with (ap takes_bytes is) open_ended ([], takes) (offer ∙ ready.same_offer) (limit ∙ ready.same_limit) (omega (arith, kept)),
+    ready_with (ap takes_bytes is) open_ended ∣ ([], takes) ∣₁ (offer ∙ ready.same_offer) (limit ∙ ready.same_limit) (omega (arith, kept)),
   )
 
   pub goes_leaves : new.judge.requests ≡ old.judge.requests → new.judge.kept ≤ old.judge.limits.args → takes_bytes new.judge.stage ≡ true
@@ -593,16 +599,15 @@ module _ {A : Type 0} (old new : JudgedRequests A) (used : ℕ) (ready : IsJudgi
           → StepLeaves (got_as (limited_got refused offset got) others) used new
       packet_leaves More None offset kept others brings within is counted =
           (some, ready_behind More refl brings (subst (λ (n : ℕ). n ≤ old.judge.limits.args) (sym counted) (within refl)) is)
-      packet_leaves (Request request) None offset kept others brings within is counted =
-          let (left, takes) = ready.taken in (
-            record {
-              some = some;
-              onward = ready_behind (Request request) refl brings (omega (arith, counted)) is;
-              between = ap stage_is_between is;
-              shut = shut;
-            },
-            (brings.brings left takes).2,
-          )
+      packet_leaves (Request request) None offset kept others brings within is counted = (
+        record {
+          some = some;
+          onward = ready_behind (Request request) refl brings (omega (arith, counted)) is;
+          between = ap stage_is_between is;
+          shut = shut;
+        },
+        ∥∥₁_elim ready.taken (hlevel props) (λ (h : HasTaken old.judge.requests). let (left, takes) = h in (brings.brings left takes).2),
+      )
       packet_leaves Stop None offset kept others brings within is counted = (some, ap takes_bytes is, ap fault_in is)
       packet_leaves (Failed fault) None offset kept others brings within is counted = ap fault_in is
       packet_leaves More (Some kind) offset kept others brings within is counted = ap fault_in is
@@ -623,12 +628,13 @@ fault_news : {A : Type 0} (old : JudgedRequests A) (new : RequestReader A) (g : 
     → Brings nothing_barred old.judge.requests g (Failed announced) new → (fault : Fault) (used : ℕ) (chunk : List ℕ) → announced ≡ fault
     → ShownByFeed fault used chunk
 fault_news old new g ready announced brings fault used chunk same =
-    let (left, takes) = ready.taken in
+    ∥∥₁_elim ready.taken (hlevel props) (λ (h : HasTaken old.judge.requests).
+    let (left, takes) = h in
     let t = announced_by_none _ _ (left ++ g ∷ []) announced (brings.brings left takes) in
     subst (λ (f : Fault). ShownByFeed f used chunk) same (record {
       not_the_end = announced_of_packets Truncated tt _ _ (left ++ g ∷ []) announced t;
       one_more = λ too_long. absurd (announced_of_packets StreamTooLong tt _ _ (left ++ g ∷ []) announced t too_long);
-    })
+    }))
 
 -- nor is that of a packet that is not kept
 pub unkept_news : (kind : Kind) (offset kept limit : ℕ) (shown : List ℕ) → IsNotKept kind kept limit shown → (fault : Fault) (used : ℕ) (chunk : List ℕ)

@@ -1,10 +1,10 @@
 -- A check where nothing was advertised that is not known.
-use Rattle.std.proofs.Common.{◌≡◌, ℕ, List, [], ◌∷◌, ◌++◌, Option, Some, None, Result, Ok, Err, map, inl, inr, refl, sym, ap, ◌∙◌, append-nil}
+use Rattle.std.proofs.Common.{◌≡◌, ℕ, List, [], ◌∷◌, ◌++◌, Option, None, Result, Ok, Err, map, inl, inr, refl, sym, ap, ◌∙◌, append-nil}
 use Rattle.git_msg.specs.Asked.{Asked}
 use Rattle.git_client.specs.Parts.{Terms}
 use Rattle.git2show_lib.specs.Others.{Advertised}
 use Rattle.git2show_lib.specs.Machine.CheckFaults.{Standing}
-use Rattle.git2show_lib.specs.OtherLines.{Question, known, other}
+use Rattle.git2show_lib.specs.OtherLines.{Question, other}
 use Rattle.git2show_lib.specs.Machine.CheckedStreams.{Begun, Checked, EndsAs, Found, Received, IsBad, bytes_begun, events_in, events_shown, received_shown}
 use Rattle.git2show_lib.specs.Machine.CheckedStreams.{lines_begun, questions_in, turns_shown, whole_of}
 use Rattle.git2show_lib.specs.declared.checking.CheckFault.{CheckFault}

@@ -1,5 +1,5 @@
 -- Turns by requests that have nothing which is not known: all of their bytes are received, and their lines are those of a client's transcript.
-use Rattle.std.proofs.Common.{◌≡◌, ℕ, All, Bool, true, false, List, [], ◌∷◌, ◌++◌, drop, map, refl, sym, ap, ◌∙◌, subst, append_assoc, append-nil}
+use Rattle.std.proofs.Common.{◌≡◌, ℕ, true, List, [], ◌∷◌, ◌++◌, drop, map, refl, sym, ap, ◌∙◌, subst, append_assoc, append-nil}
 use Rattle.std.proofs.lemmas.List.Elements.{All-head, All-tail}
 use Rattle.git_msg.specs.Asked.{Asked, command_asked}
 use Rattle.git_client.specs.Events.{EventValue}

@@ -1,5 +1,12 @@
 pub mod CheckRuns
 pub mod CheckEnds
+pub mod CheckerSteps
+pub mod CheckerCalls
+pub mod CheckerStands
+pub mod CheckerEnds
+pub mod CheckerRequests
+pub mod CheckerResponses
+pub mod CheckerSieves
 pub mod OtherLines
 pub mod LinesEscaped
 pub mod KnownTurns

@@ -22,7 +22,8 @@ use Rattle.git_client.specs.declared.events.Ending.TheVariants.{FlushOnly, Respo
 use Rattle.git_client.specs.declared.receiving.Counts.{Counts}
 use Rattle.git_client.proofs.AskedInTurn.{has_asked}
 use Rattle.git_client.proofs.Carries.{is_quiet, nothing_unsent}
-use Rattle.git_client.proofs.ClientRuns.{Ran, Running, anew, asks_on, begins, has_stated, receives_on, quietly_stated, ran, ran_unasked, refused_next, stayed}
+use Rattle.git_client.specs.Machine.Running.{Running}
+use Rattle.git_client.proofs.ClientRuns.{Ran, anew, asks_on, begins, has_stated, receives_on, quietly_stated, ran, ran_unasked, refused_next, stayed}
 use Rattle.git_client.proofs.EventsReceived.{all_is_sent, has_events, is_whole}
 use Rattle.git_client.proofs.Faults.{first_fault}
 use Rattle.git_client.proofs.Phases.{quiet_where_failed, quiet_where_ready}

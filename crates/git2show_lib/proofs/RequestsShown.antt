@@ -1,5 +1,5 @@
 -- A request is asked, and then its lines are written.
-use Rattle.std.proofs.Common.{◌≡◌, Bool, true, false, List, ◌++◌, ℕ, Option, Result, Ok, Err, OnOk, OnErr, IfErr, sym, subst}
+use Rattle.std.proofs.Common.{◌≡◌, Bool, true, false, List, ℕ, Option, Result, Ok, Err, OnOk, OnErr, IfErr, sym, subst}
 use Rattle.std.specs.Io.KnownBytes.{Appends}
 use Rattle.git_pkt.proofs.EngineLemmas.{AppendsFront-longer, written_then}
 use Rattle.git_pkt.specs.Streams.{AppendsFront, Flow, flow}

@@ -57,7 +57,7 @@ none_in_front p front rest fits cut some q s more is spells =
     absurd (omega (arith, some, ap length same.rest, length-append more rest))
 
 -- so where such a part comes after whole packets, it is a rest
-rest_of_front : (bytes front rest : List ℕ) (p : Pkt) (given : List Given) → length (body_of p) ≤ longest_payload → spelling_of p ≡ front ++ rest
+pub rest_of_front : (bytes front rest : List ℕ) (p : Pkt) (given : List Given) → length (body_of p) ≤ longest_payload → spelling_of p ≡ front ++ rest
     → 0 < length rest → ArePackets bytes → Splits 0 (bytes ++ front) given [] → front ≡ []
 rest_of_front bytes front rest p given fits cut some (gs, splits) other =
     (one_split 0 (bytes ++ front) gs given front [] (spells_all_more 0 bytes gs [] front splits.spelled) other.spelled
@@ -79,7 +79,7 @@ reads_then a b c u v gs hs first second start bytes given rest reads =
 
 module _ {A : Type 0} where
   -- a client that can ask has no packet begun
-  ready_splits : (t : Terms) (h : History) (client : Client A) → Converses t h client → fault_of client ≡ None → wants_input client ≡ false
+  pub ready_splits : (t : Terms) (h : History) (client : Client A) → Converses t h client → fault_of client ≡ None → wants_input client ≡ false
       → ArePackets h.used
   ready_splits t h client stands sound ready =
       let none = rest_behind (reader_of client) h.used stands.given stands.rest (client.sound sound) (client.shut sound ready) stands.reads in

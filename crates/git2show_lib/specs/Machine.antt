@@ -12,6 +12,9 @@ pub mod CheckSteps
 pub mod Sieving
 pub mod CheckedStreams
 pub mod TurnSteps
+pub mod Checking
+pub mod CheckerTurns
+pub mod Checker
 pub mod HeldScripts
 pub mod ScriptLines
 pub mod ScriptFaults

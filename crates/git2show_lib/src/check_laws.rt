@@ -1,10 +1,13 @@
 //! What follows from the definitions of a check alone.
 
-ghost use Rattle.std.specs.Prelude.{◌≡◌, ◌∷◌, ◌++◌, [], ℕ, List, Result};
+ghost use Rattle.std.specs.Prelude.{◌≡◌, ◌∷◌, ◌++◌, [], ℕ, List, Result, Some};
 ghost use Rattle.git_client.specs.Parts.{Terms};
 ghost use Rattle.git_client.specs.Transcript.{transcript_of};
 ghost use Rattle.git2show_lib.specs.Machine.CheckFaults.{Standing};
 ghost use Rattle.git2show_lib.specs.Machine.CheckedStreams.{Checked};
+ghost use Rattle.git2show_lib.specs.Machine.Checker.{Checks, HasJudged, needed_of, verdict_of};
+ghost use Rattle.git2show_lib.specs.declared.checker.Checker.{Checker};
+ghost use Rattle.git2show_lib.specs.declared.checker.Needed.TheVariants.{Nothing};
 ghost use Rattle.git2show_lib.specs.declared.checking.CheckFault.{CheckFault};
 
 use std::alloc::Allocator;
@@ -15,4 +18,13 @@ pub fn nothing_passes<A: Allocator + Copy>()
     ensures { (t : Terms) (limit : ℕ) (result : Result (Unit {0}) CheckFault) (requests responses : Standing) (read given : List (List ℕ))
         (c : Checked A t limit result requests responses read given) → c.by.text ≡ []
         → (read ≡ (c.found.used ++ c.found.unused) ∷ (c.h.used ++ c.unused) ∷ []) × (given ≡ transcript_of c.h.asked c.h.events ∷ []) }
+{}
+
+/// A checker that needs nothing has judged both streams as [`check`](crate::check) does: what that promises holds of the bytes that it used, and
+/// of these with others behind them, and of the lines that it lent.
+#[tactic(auto, using(crate::proofs::CheckerStands::judged))]
+pub fn checkers_judge<A: Allocator + Copy>()
+    ensures { (t : Terms) (limit : ℕ) (requests responses lent : List ℕ) (c : Checker A) (result : Result (Unit {0}) CheckFault)
+        → Checks t limit requests responses lent c → needed_of c ≡ Nothing → verdict_of c ≡ Some result
+        → HasJudged t limit result requests responses lent c }
 {}

@@ -81,7 +81,8 @@ pub(crate) struct JudgedRequests<A: Allocator + Copy> {
 }
 
 impl<A: Allocator + Copy> JudgedRequests<A> {
-    ghost use Rattle.git2show_lib.specs.Machine.JudgedRequests.{Closes, Feeds, HasRead, IsReady, Steps as StepsTo, advertised_by, limit_of};
+    ghost use Rattle.git2show_lib.specs.Machine.JudgedRequests.{Closes, Feeds, HasRead, IsReady, Steps as StepsTo, advertised_by, is_between, is_within_packet};
+    ghost use Rattle.git2show_lib.specs.Machine.JudgedRequests.{limit_of};
 
     /// A reader before the first byte.
     pub(crate) fn new(
@@ -92,6 +93,8 @@ impl<A: Allocator + Copy> JudgedRequests<A> {
     ) -> JudgedRequests<A>
         ensures reads { HasRead [] [] result }
         ensures ready { IsReady result }
+        ensures between { is_between result ≡ true }
+        ensures shut { is_within_packet result ≡ false }
         ensures advertised { advertised_by result ≡ record { offer = offer; text = advertised.items } }
         ensures limit { limit_of result ≡ limits.args }
     {

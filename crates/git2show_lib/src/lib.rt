@@ -4,6 +4,7 @@
 mod advertisement;
 mod asking;
 pub mod check_laws;
+mod checker;
 mod checking;
 mod json_lines;
 mod judged_requests;
@@ -29,6 +30,7 @@ mod sieved_response;
 pub mod view_laws;
 mod views;
 
+pub use checker::{Checker, Needed, Stream};
 pub use checking::{CheckFault, check};
 pub use playing::play;
 pub use pretty::Look;

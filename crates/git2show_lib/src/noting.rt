@@ -8,6 +8,7 @@ use git_msg::Limits;
 use git_names::Steps;
 use git_pkt::{Got, Kind, Packet, PacketReader, text};
 use std::alloc::{AllocError, Allocator};
+use std::mem::replace;
 
 /// How many bytes of them are kept at the most.
 const MOST_KEPT: usize = Limits::DEFAULT_ARGS as usize;
@@ -68,6 +69,17 @@ impl<A: Allocator + Copy> Noting<A> {
         match self.lost {
             Some(kind) => Err(kind),
             None => Ok(self.text),
+        }
+    }
+
+    /// Hands out the lines, each with an LF after it, and has none any more; or why one was not kept: `TooMuchKept` or `OutOfMemory`.
+    pub(crate) fn take_text(&mut self, alloc: A) -> Result<Vec<u8, A>, Kind>
+        ensures text { IfOk result (λ text. (self.old.lost ≡ None) × (text.items ≡ self.old.text.items)) }
+        ensures why { IfErr result (λ kind. self.old.lost ≡ Some kind) }
+    {
+        match self.lost {
+            Some(kind) => Err(kind),
+            None => Ok(replace(&mut self.text, Vec::new(alloc))),
         }
     }
 }

@@ -76,7 +76,7 @@ pub(crate) fn pass_answer<R: Read>(
 }
 
 /// Passes over what the chunk has of an answer. Answers where its last packet ends in the chunk, if it does.
-fn pass_chunk(
+pub(crate) fn pass_chunk(
     packets: &mut PacketReader,
     ending: Ending,
     chunk: &[u8],

@@ -122,6 +122,13 @@ impl<A: Allocator + Copy> OtherLines<A> {
         replace(self, empty)
     }
 
+    /// Forgets all of it.
+    pub(crate) fn forget(&mut self)
+        ensures { noted_in self.new ≡ nothing_noted }
+    {
+        *self = OtherLines::new(self.alloc);
+    }
+
     /// Notes a packet of a request with which so many bytes count as kept. Answers why its line is not kept, if it is not: for the limit, or
     /// for want of memory.
     pub(crate) fn keep_within(

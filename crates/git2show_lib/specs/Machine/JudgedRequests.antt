@@ -227,7 +227,7 @@ module _ {A : Type 0} where
   pub record IsJudging (j : RequestJudge A) : Type 0 where
     pub wants : takes_bytes j.stage ≡ true
     pub open_ended : reader_fault j.requests ≡ None
-    pub taken : HasTaken j.requests
+    pub taken : ∥ HasTaken j.requests ∥₁
     pub same_offer : j.offer ≡ offer_in j.requests
     pub same_limit : j.limits.args ≡ limit_in j.requests
     pub within : j.kept ≤ j.limits.args

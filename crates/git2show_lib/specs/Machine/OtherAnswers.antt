@@ -1,5 +1,5 @@
 -- What a reader of packets does with an answer that passes.
-use Rattle.std.specs.Prelude.{◌≡◌, ℕ, ◌≤◌, Bool, false, List, [], ◌++◌, length, take, Option, Some, None, Result, Ok, Err}
+use Rattle.std.specs.Prelude.{◌≡◌, ℕ, ◌≤◌, ◌<◌, Bool, false, List, [], ◌++◌, length, take, Option, Some, None, Result, Ok, Err}
 use Rattle.std.specs.Io.KnownBytes.{Consumes}
 use Rattle.git_pkt.specs.Faults.{IsOpen}
 use Rattle.git_pkt.specs.Splits.{Given}
@@ -43,6 +43,7 @@ pub record PassesAll (ending : Ending) (old new : PacketReader) (chunk : List �
 
 -- the answer ends in the chunk
 pub record PassesUpTo (ending : Ending) (used : ℕ) (old new : PacketReader) (chunk : List ℕ) : Type 0 where
+  pub some : 0 < used
   pub within : used ≤ length chunk
   pub passes : (bytes : List ℕ) → Passes ending bytes old → HasPassed ending (bytes ++ take used chunk) new
 

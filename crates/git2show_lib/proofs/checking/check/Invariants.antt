@@ -6,7 +6,7 @@ use Rattle.git2show_lib.specs.Machine.JudgedRequests.{IsReady, bytes_used}
 use Rattle.git_msg.specs.declared.limits.TheConstants.Limits.{DEFAULT_ARGS}
 use Rattle.git_client.specs.Parts.{terms_of}
 use Rattle.git_client.specs.Machine.RunSteps.{window_of}
-use Rattle.git2show_lib.proofs.CheckRuns.{Checking}
+use Rattle.git2show_lib.specs.Machine.Checking.{Checking}
 use Rattle.git2show_lib.proofs.checking.check.Given as goal
 
 -- the requests that were read came in turn, and what came for each is whole: what waits of both chunks is all that was read

@@ -1,4 +1,4 @@
-use Rattle.std.proofs.Common.{◌≡◌, ◌+◌, ◌∙◌, sym, true, false, List, ℕ}
+use Rattle.std.proofs.Common.{arith, ◌≡◌, ◌+◌, ◌∙◌, sym, true, false, List, ℕ}
 use Rattle.git_pkt.specs.Packets.{seen}
 use Rattle.git_pkt.specs.Splits.{Given}
 use Rattle.git_msg.proofs.StreamSteps.{feeds_with}
@@ -41,6 +41,7 @@ returns-then-is_last c =
     let feeds = feeds_with mid new _ fed _ c.in-Packet.is c.feed-fed.follows.holds-at-none in
     let last : is_last c.args.ending given.packet ≡ true = sym c.is_last.ensures ∙ c.if-is_last.true in
     record {
+      some = omega (arith, feeds.announces.0);
       within = within_further chunk done was.within fed.used c.feed-fed.ensures.used;
       passes =
           passes_further c.args.ending old mid chunk done was.within was.passes (λ (l : List ℕ). HasPassed c.args.ending l new) fed.used

@@ -1,4 +1,4 @@
-use Rattle.std.proofs.Common.{rules, ◌∙◌, ℕ}
+use Rattle.std.proofs.Common.{rules, ◌∙◌}
 use Rattle.git2show_lib.proofs.LinesEscaped.{escaped_more, escaped_none}
 use Rattle.git2show_lib.proofs.other_lines.push_line.Goals as goal
 

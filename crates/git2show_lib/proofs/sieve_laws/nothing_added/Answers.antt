@@ -1,4 +1,4 @@
-use Rattle.std.proofs.Common.{ℕ, List, [], sym, subst, append-nil}
+use Rattle.std.proofs.Common.{List, [], sym, subst, append-nil}
 use Rattle.git_pkt.specs.Splits.{Given, SpellsAll}
 use Rattle.git2show_lib.specs.declared.sieve.Spot.TheVariants.{Header}
 use Rattle.git2show_lib.proofs.SievedLengths.{sieved_within}
