@@ -148,6 +148,7 @@ FREES(gitwire_request)
 FREES(gitwire_server)
 FREES(gitwire_host)
 FREES(gitwire_client)
+FREES(gitwire_checker)
 FREES(gitwire_writer)
 
 gitwire_result gitwire_packet_reader_init(gitwire_packet_reader *reader);
@@ -225,6 +226,12 @@ gitwire_result gitwire_client_new_named(gitwire_client **client, gitwire_format 
 gitwire_result gitwire_client_new(gitwire_client **client, gitwire_format format, gitwire_ending ending)
 {
 	return gitwire_client_new_named(client, format, ending, "", 0);
+}
+
+gitwire_result gitwire_checker_init(gitwire_checker *checker, gitwire_format format, gitwire_ending ending, uint32_t limit);
+gitwire_result gitwire_checker_new(gitwire_checker **checker, gitwire_format format, gitwire_ending ending, uint32_t limit)
+{
+	MAKE(checker, gitwire_checker_init(made, format, ending, limit));
 }
 
 gitwire_result gitwire_writer_init(gitwire_writer *writer);

@@ -1,12 +1,13 @@
 #!/usr/bin/env python3
-"""Bindings of the library's client for Python, through ctypes and the shared library, which `make install` builds:
+"""Bindings of the library's client and its checker for Python, through ctypes and the shared library, which `make install` builds:
 
-    from gitwire import Client, requests_of
+    from gitwire import Checker, Client, requests_of
 
 and a program over them, which judges a recorded conversation as `git2show check` does, and prints its transcript:
 
-    LD_LIBRARY_PATH=PREFIX/lib gitwire.py [--sha256] [--stateless] REQUESTS RESPONSES
+    LD_LIBRARY_PATH=PREFIX/lib gitwire.py [--checker] [--sha256] [--stateless] REQUESTS RESPONSES
 
+It does so by the client. With --checker the library's checker does, which also takes what a server advertised and the client does not know.
 LD_LIBRARY_PATH is not needed where the library lies in a folder that the system's loader knows.
 """
 
@@ -19,8 +20,10 @@ from typing import NamedTuple, Optional
 DONE, MORE, FAILED, REQUEST, PACKET, NEED_INPUT, CAN_ASK, FINISHED = 0, 1, 2, 13, 15, 16, 19, 20
 CAPABILITY, OFFERED, REFERENCE, ACK, NAK, READY, SHALLOW, UNSHALLOW, WANTED_REF, INFO, PACK, PROGRESS, ENDED = range(21, 34)
 SECTION = 45
+LINES, NEED_REQUESTS, NEED_RESPONSES, CHECKED, FAILED_REQUESTS, FAILED_RESPONSES = range(46, 52)
 SHA1, SHA256 = 1, 2
 ENDS_BY_FLUSH, ENDS_BY_RESPONSE_END = 1, 2
+REQUESTS, RESPONSES = 1, 2
 COMMANDS = {1: "ls-refs", 2: "fetch", 3: "object-info"}
 FEATURES_ALL = 127
 PART_ID, PART_NAME, PART_TEXT, PART_PEELED = range(1, 5)
@@ -81,6 +84,11 @@ def load_library():
         "client_leave": (c_uint32, [handle]),
         "client_close": (Answer, [handle]),
         "client_free": (None, [handle]),
+        "checker_new": (c_uint32, [place, c_uint32, c_uint32, c_uint32]),
+        "checker_feed": (Answer, [handle, c_uint32, *text]),
+        "checker_close": (c_uint32, [handle, c_uint32]),
+        "checker_pull": (Answer, [handle, *text]),
+        "checker_free": (None, [handle]),
         "event_part": (Text, [POINTER(Listed), c_uint32, c_void_p, c_void_p]),
         "fault_name": (c_char_p, [c_uint32]),
         "escape": (Answer, [*text, *text]),
@@ -105,9 +113,10 @@ def made(result):
 
 
 def judged(answer):
-    """What was returned, unless it is an error."""
-    if answer.kind == FAILED:
-        raise Refused(f"{LIBRARY.gitwire_fault_name(answer.fault).decode()} at {answer.offset}")
+    """What was returned, unless it is an error, which has the stream before it if a checker reports it."""
+    streams = {FAILED: "", FAILED_REQUESTS: "requests: ", FAILED_RESPONSES: "responses: "}
+    if answer.kind in streams:
+        raise Refused(f"{streams[answer.kind]}{LIBRARY.gitwire_fault_name(answer.fault).decode()} at {answer.offset}")
     return answer
 
 
@@ -225,6 +234,31 @@ class Client:
         judged(LIBRARY.gitwire_client_close(self.handle))
 
 
+class Checker:
+    """A judge of conversations, of what the client sent, REQUESTS, and what the server sent, RESPONSES."""
+
+    def __init__(self, format_=SHA1, ending=ENDS_BY_FLUSH, limit=DEFAULT_LIMIT):
+        self.handle = c_void_p()
+        self.buffer = create_string_buffer(CHUNK)
+        made(LIBRARY.gitwire_checker_new(byref(self.handle), format_, ending, limit))
+
+    def __del__(self):
+        LIBRARY.gitwire_checker_free(self.handle)
+
+    def pull(self):
+        """What to do next, and bytes of the transcript if that is LINES. A conversation that is refused raises an error."""
+        answer = judged(LIBRARY.gitwire_checker_pull(self.handle, self.buffer, len(self.buffer)))
+        return answer.kind, self.buffer[: answer.length]
+
+    def feed(self, stream, chunk):
+        """How many bytes of the chunk were used: none if this stream is not needed, which `pull` returns."""
+        return LIBRARY.gitwire_checker_feed(self.handle, stream, chunk, len(chunk)).used
+
+    def close(self, stream):
+        """The stream, which is needed, ends here."""
+        LIBRARY.gitwire_checker_close(self.handle, stream)
+
+
 class Transcript:
     """The lines of a conversation, as `git2show check` prints them."""
 
@@ -278,19 +312,37 @@ def judge(client, requests, responses):
             at += client.used
 
 
+def check(checker, requests, responses):
+    """Prints the transcript of a conversation, by the library's checker."""
+    streams, at = {NEED_REQUESTS: (REQUESTS, requests), NEED_RESPONSES: (RESPONSES, responses)}, {REQUESTS: 0, RESPONSES: 0}
+    while (next_ := checker.pull())[0] != CHECKED:
+        kind, lines = next_
+        if kind == LINES:
+            sys.stdout.write(lines.decode())
+            continue
+        stream, sent = streams[kind]
+        if at[stream] < len(sent):
+            at[stream] += checker.feed(stream, sent[at[stream] : at[stream] + CHUNK])
+        else:
+            checker.close(stream)
+
+
 def main(words):
     """Returns the program's status. Where nobody reads its output it ends, as other programs do."""
     signal.signal(signal.SIGPIPE, signal.SIG_DFL)
     options = {word for word in words if word.startswith("--")}
     files = [word for word in words if not word.startswith("--")]
-    if len(files) != 2 or not options <= {"--sha256", "--stateless"}:
-        print("usage: gitwire.py [--sha256] [--stateless] REQUESTS RESPONSES", file=sys.stderr)
+    if len(files) != 2 or not options <= {"--checker", "--sha256", "--stateless"}:
+        print("usage: gitwire.py [--checker] [--sha256] [--stateless] REQUESTS RESPONSES", file=sys.stderr)
         return 2
     format_ = SHA256 if "--sha256" in options else SHA1
+    ending = ENDS_BY_RESPONSE_END if "--stateless" in options else ENDS_BY_FLUSH
     try:
         requests, responses = (open(name, "rb").read() for name in files)
-        client = Client(format_, ENDS_BY_RESPONSE_END if "--stateless" in options else ENDS_BY_FLUSH)
-        judge(client, requests_of(requests, format_), responses)
+        if "--checker" in options:
+            check(Checker(format_, ending), requests, responses)
+        else:
+            judge(Client(format_, ending), requests_of(requests, format_), responses)
     except (OSError, Refused) as why:
         sys.stdout.flush()
         print(f"gitwire.py: {why}", file=sys.stderr)

@@ -1,9 +1,9 @@
 /*
- * Git's wire protocol, version 2 (fetch side), for programs in C: packets, requests, a server, a client, and the packets
- * that a host writes itself. Each call is a method of a library that is proved to meet its contract, but for a few lines in C
- * (c/gitwire.c), which hold the memory of handles and return pointers. docs/PROMISES.md has the promises in full,
- * docs/PROTOCOL.md the rules and the errors. Files are named as in the project's repository; docs/PROMISES.md,
- * docs/PROTOCOL.md, examples/ and sample/repository-text.sh are installed in share/doc/gitwire.
+ * Git's wire protocol, version 2 (fetch side), for programs in C: packets, requests, a server, a client, a judge of
+ * conversations, and the packets that a host writes itself. Each call is a method of a library that is proved to meet its
+ * contract, but for a few lines in C (c/gitwire.c), which hold the memory of handles and return pointers. docs/PROMISES.md has
+ * the promises in full, docs/PROTOCOL.md the rules and the errors. Files are named as in the project's repository;
+ * docs/PROMISES.md, docs/PROTOCOL.md, examples/ and sample/repository-text.sh are installed in share/doc/gitwire.
  *
  * The header has a part for each subject, which this file includes; each part can be included alone:
  *
@@ -13,6 +13,7 @@
  *     gitwire/server.h     a repository in memory, and a server over it
  *     gitwire/host.h       a server over a store of the host's own
  *     gitwire/client.h     a client
+ *     gitwire/checker.h    a judge of conversations
  *     gitwire/greeting.h   the first packet of a connection to `git daemon`
  *     gitwire/writer.h     packets that a host writes itself
  *
@@ -28,7 +29,12 @@
  *                NEED_INPUT   read from the server and feed what came, which returns an event; at the input's end close
  *                FINISHED, FAILED: the conversation is over
  *
- * In that same loop, a server over a store of the host's own (gitwire_host) asks for what it needs from the store.
+ * In that same loop, a server over a store of the host's own (gitwire_host) asks for what it needs from the store. A judge of
+ * conversations has another loop, as in examples/check.c:
+ *
+ *     a checker  LINES        write them where the transcript goes
+ *                NEED_REQUESTS, NEED_RESPONSES   feed bytes of that stream; at its end close it
+ *                CHECKED, FAILED_REQUESTS, FAILED_RESPONSES: the verdict
  *
  * For every call:
  *
@@ -67,7 +73,8 @@
  *   - A pack that a repository is lent (gitwire_repository_new_lent) lasts, unchanged, until the handle and every server that was
  *     made of it are freed.
  *   - Each bool of an array of events is 0 or 1 before the call, as in zeroed memory.
- *   - The stack has space for a call. The tests make each call in a thread with the 16 KiB of PTHREAD_STACK_MIN.
+ *   - The stack has space for a call. The tests make each call in a thread with the 16 KiB of PTHREAD_STACK_MIN, but for
+ *     gitwire_checker_new, which takes up to 160 KiB.
  *   - malloc, realloc and free are those of one allocator, which aligns as the C standard requires, and so are the calls that
  *     gitwire_set_memory names in their place. No call is made from a signal handler, nor in the child of a fork of a process
  *     with more than one thread.
@@ -82,6 +89,7 @@
 #define GITWIRE_H
 
 #include "gitwire/base.h"
+#include "gitwire/checker.h"
 #include "gitwire/client.h"
 #include "gitwire/greeting.h"
 #include "gitwire/host.h"

@@ -10,7 +10,7 @@ write_examples() {
     local name
     make -s -C "$top" install PREFIX="$installed" PROGRAM="$program" LIBRARY="$library" RT="${RT:-rt}" >&2 ||
         stop 'what was built could not be installed'
-    for name in daemon fetch list packets upload-pack watch; do
+    for name in check daemon fetch list packets upload-pack watch; do
         compile "$name" "$top/examples/$name.c"
     done
     compile frugal_daemon "$top/examples/daemon.c" -DMOST_KEPT=200
@@ -19,6 +19,7 @@ write_examples() {
     compile library_arrays "$top/tests/library_arrays.c"
     compile library_writers "$top/tests/library_writers.c"
     compile library_host "$top/tests/library_host.c"
+    compile library_checker "$top/tests/library_checker.c"
     compile library_threads "$top/tests/library_threads.c"
     compile library_memory "$top/tests/library_memory.c" -Wl,--wrap=malloc,--wrap=realloc,--wrap=free
     compile refused_memory "$top/tests/refused_memory.c" -Wl,--wrap=malloc,--wrap=calloc,--wrap=realloc,--wrap=free
@@ -132,7 +133,7 @@ case_library_has_the_calls_of_its_header() {
     calls_of_the_header > calls
     [ -s calls ] || differs 'no call in the header'
     calls_for_c > calls_inside
-    [ "$(wc -l < calls_inside)" -ge 18 ] || differs 'too few calls that are not in the header' calls_inside
+    [ "$(wc -l < calls_inside)" -ge 20 ] || differs 'too few calls that are not in the header' calls_inside
     nm -g --defined-only "$installed/lib/libgitwire.a" | awk '$2 == "T" && $3 ~ /^gitwire_/ { print $3 }' | sort > written
     expect_same 'the calls of the library' <(sort calls calls_inside) written
 }
@@ -165,7 +166,7 @@ case_programs_take_the_shared_library() {
     grep -q -F "libgitwire.so.1 => $installed/lib/libgitwire.so.1 " out || differs 'a program without the shared library' out
     readelf -W -V bin/list-shared > parts
     grep -q 'Name: GITWIRE_0\.3 ' parts || differs 'a program without the version of its calls' parts
-    for name in library_calls library_requests library_writers library_host; do
+    for name in library_calls library_requests library_writers library_host library_checker; do
         gcc -O2 -o "bin/$name-shared" "$top/tests/$name.c" "${flags[@]}"
         shared "$name-shared"
         expect 0 /dev/null /dev/null
@@ -195,7 +196,7 @@ case_library_keeps_the_interface_of_0_3() {
     expect 0 /dev/null /dev/null
     sed -n -e '/^\/\* GITWIRE_/h' -e '/^[a-z_0-9 ]* \**gitwire_[a-z_]*(/{s/^[a-z_0-9 ]* \**\(gitwire_[a-z_]*\)(.*/\1/;G;s/\n\/\* \([A-Z_0-9.]*\).*/@@\1/;p}' \
         "$top/tests/abi-0.3" | sort > wanted
-    [ "$(wc -l < wanted)" -ge 83 ] || differs 'too few calls in tests/abi-0.3' wanted
+    [ "$(wc -l < wanted)" -ge 88 ] || differs 'too few calls in tests/abi-0.3' wanted
     readelf -W --dyn-syms "$installed/lib/libgitwire.so" | awk '$8 ~ /^gitwire_/ { print $8 }' | sort > written
     expect_same 'the calls of the shared library' wanted written
 }
@@ -206,6 +207,7 @@ compiles() {
     run "$1" -x "${language%%:*}" -std="${language##*:}" -pedantic -Wall -Wextra -Wconversion -Werror -fsyntax-only - -I"$installed/include" <<< "
         #include <gitwire.h>
         extern gitwire_client *client;
+        extern gitwire_checker *checker;
         extern gitwire_request *request;
         extern gitwire_host *host;
         extern gitwire_writer *writer;
@@ -225,6 +227,10 @@ statements_with_numbers() {
 { return gitwire_client_new(&client, ending, format) == GITWIRE_DONE; }
 { return gitwire_client_new(&client, GITWIRE_SHA1, GITWIRE_ENDS_BY_FLUSH) == GITWIRE_DONE; }
 { return gitwire_client_new(&client, GITWIRE_ENDS_BY_FLUSH, GITWIRE_SHA1) == GITWIRE_DONE; }
+{ return gitwire_checker_new(&checker, format, ending, 0) == GITWIRE_DONE; }
+{ return gitwire_checker_new(&checker, ending, format, 0) == GITWIRE_DONE; }
+{ return gitwire_checker_close(checker, GITWIRE_STREAM_RESPONSES) == GITWIRE_DONE; }
+{ return gitwire_checker_close(checker, GITWIRE_RESPONSE_END) == GITWIRE_DONE; }
 { return gitwire_request_new(&request, GITWIRE_FETCH, GITWIRE_SHA1, 0) == GITWIRE_DONE; }
 { return gitwire_request_new(&request, GITWIRE_SHA1, GITWIRE_FETCH, 0) == GITWIRE_DONE; }
 { return gitwire_host_new(&host, GITWIRE_SHA1, GITWIRE_FEATURE_SHALLOW, 0, true) == GITWIRE_DONE; }
@@ -274,7 +280,7 @@ case_library_header_has_a_type_for_each_kind_of_number() {
 
 case_library_programs_compile_without_a_word() {
     local name
-    for name in daemon fetch list packets upload-pack watch library_{calls,arrays,writers,host,threads,memory} refused_memory; do
+    for name in check daemon fetch list packets upload-pack watch library_{calls,requests,arrays,writers,host,checker,threads,memory} refused_memory; do
         expect_same "what the compiler prints for $name" /dev/null "$name.said"
     done
 }
@@ -328,6 +334,8 @@ case_examples_of_the_manual_pages_compile() {
     done
     run of-gitwire
     expect 0 <(echo refs/heads/main) /dev/null
+    run of-gitwire_checker
+    expect 0 <(printf '%s\n' 'capability ls-refs' offered 'request ls-refs' 'end 0 0') /dev/null
     run of-gitwire_greeting
     expect 0 <(echo '/project.git by version 2') /dev/null
     run of-gitwire_packets
@@ -340,7 +348,7 @@ case_examples_of_the_manual_pages_compile() {
 
 case_library_calls_tell_what_the_header_says() {
     local name
-    for name in library_calls library_requests library_writers library_host; do
+    for name in library_calls library_requests library_writers library_host library_checker; do
         run "$name-watched"
         expect 0 /dev/null /dev/null
         under_valgrind "bin/$name"
@@ -391,7 +399,7 @@ case_library_frees_all_where_memory_is_refused() {
     run refused_memory-watched
     expect_status 0
     expect_same 'standard error' /dev/null err
-    grep -q -x -E '[1-9][0-9]*( [1-9][0-9]*){13}' out || differs 'what was printed' out
+    grep -q -x -E '[1-9][0-9]*( [1-9][0-9]*){15}' out || differs 'what was printed' out
     under_valgrind bin/refused_memory
     expect_status 0
 }
@@ -476,16 +484,23 @@ case_packets_are_listed_by_a_program_in_python() {
     lists_as_show env LD_LIBRARY_PATH="$installed/lib" "$installed/share/doc/gitwire/examples/packets.py"
 }
 
-# judges_as_check STREAMS OPTION..: that the bindings for Python judge a recorded conversation as `check` does.
+# checked_in_python STREAMS OPTION..: runs the bindings for Python on a recorded conversation.
+checked_in_python() {
+    run env LD_LIBRARY_PATH="$installed/lib" "$installed/share/doc/gitwire/examples/gitwire.py" "${@:2}" "$1-requests.pkt" "$1-responses.pkt"
+}
+
+# judges_as_check STREAMS OPTION..: that the bindings for Python judge a recorded conversation as `check` does, by the client and by the checker.
 judges_as_check() {
     local streams=$1 wanted_status
     shift
     run git2show check "${@/--sha256/--format=sha256}" "$streams-requests.pkt" "$streams-responses.pkt"
     cp out wanted
-    sed 's/^git2show: responses: /gitwire.py: /' err > wanted_err
+    cp err wanted_fault
     wanted_status=$status
-    run env LD_LIBRARY_PATH="$installed/lib" "$installed/share/doc/gitwire/examples/gitwire.py" "$@" "$streams-requests.pkt" "$streams-responses.pkt"
-    expect "$wanted_status" wanted wanted_err
+    checked_in_python "$streams" "$@"
+    expect "$wanted_status" wanted <(sed 's/^git2show: responses: /gitwire.py: /' wanted_fault)
+    checked_in_python "$streams" --checker "$@"
+    expect "$wanted_status" wanted <(sed 's/^git2show: /gitwire.py: /' wanted_fault)
 }
 
 # Where there is a Python.
@@ -500,6 +515,15 @@ case_conversations_are_judged_by_a_program_in_python() {
     head -c 1000 "$sessions/clone-responses.pkt" > short-responses.pkt
     cp "$sessions/clone-requests.pkt" short-requests.pkt
     judges_as_check short
+    # What the client does not know, and the end of requests, are the checker's alone.
+    write_another_command
+    mv requests other-requests.pkt
+    mv responses other-responses.pkt
+    checked_in_python other --checker
+    expect 0 wanted empty
+    truncate -s 26 other-requests.pkt
+    checked_in_python other --checker
+    expect 1 <(head -n 3 wanted) <(echo 'gitwire.py: requests: Truncated at 24')
 }
 
 # lists_from_git FOLDER WORD..: that our client lists what Git does of a repository, and ends well.

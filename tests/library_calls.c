@@ -5,7 +5,7 @@
  * What the calls do is proved. What is tested here is that C and the library agree about it: how arguments and results are passed, the
  * order of fields and numbers, that memory is freed once (built with a sanitizer, and under valgrind), and that a small stack is enough.
  *
- * The calls of requests are in library_requests.c, those that write a packet or a text in library_writers.c.
+ * The calls of requests are in library_requests.c, those of a checker in library_checker.c, those that write a packet or a text in library_writers.c.
  */
 #include "library_calls.h"
 

@@ -29,7 +29,7 @@ static int failures;
 #define LONG_ONE "1111111111111111111111111111111111111111111111111111111111111111"
 
 static uint8_t buffer[GITWIRE_PACKET_SIZE];
-static gitwire_writer *writer = NULL;
+__attribute__((unused)) static gitwire_writer *writer = NULL;
 
 /* Whether exactly these fields are set, and the others are 0. */
 static bool tells(gitwire_answer answer, gitwire_result kind, size_t used, uint64_t offset, size_t length)
@@ -53,21 +53,25 @@ static inline bool wrote(gitwire_answer answer, const char *text)
 	return is_it;
 }
 
-/* Runs all on a small stack; the header states how much a call takes. A sanitizer takes more, and valgrind needs less. */
-static int on_a_small_stack(void *(*try_all)(void *))
+/* Runs a function on a stack of its own, of this size, until it returns. A sanitizer takes more, and valgrind needs less. */
+static inline bool on_a_stack(size_t stack, void *(*body)(void *), void *argument)
 {
 #ifdef __SANITIZE_ADDRESS__
-	const size_t stack = 1048576;
+	const size_t more = 1048576;
 #else
-	const size_t stack = PTHREAD_STACK_MIN;
+	const size_t more = 0;
 #endif
 	pthread_attr_t attributes;
 	pthread_t thread;
 
-	if (pthread_attr_init(&attributes) != 0 || pthread_attr_setstacksize(&attributes, stack) != 0
-		|| pthread_create(&thread, &attributes, try_all, NULL) != 0 || pthread_join(thread, NULL) != 0)
-		return 1;
-	return failures > 0;
+	return pthread_attr_init(&attributes) == 0 && pthread_attr_setstacksize(&attributes, stack + more) == 0
+		&& pthread_create(&thread, &attributes, body, argument) == 0 && pthread_join(thread, NULL) == 0;
+}
+
+/* Runs all on a small stack; the header states how much a call takes. */
+static int on_a_small_stack(void *(*try_all)(void *))
+{
+	return !on_a_stack(PTHREAD_STACK_MIN, try_all, NULL) || failures > 0;
 }
 
 #endif

@@ -125,6 +125,7 @@ static bool lists(void)
 	gitwire_server *server = NULL;
 	gitwire_client *client = NULL;
 	gitwire_request *request = NULL;
+	gitwire_checker *checker = NULL;
 	bool is_well = gitwire_repository_new(&repository, text, sizeof text - 1, NULL, 0).kind == GITWIRE_DONE
 		&& gitwire_server_new(&server, repository, 1000, true) == GITWIRE_DONE
 		&& gitwire_client_new(&client, GITWIRE_SHA1, GITWIRE_ENDS_BY_FLUSH) == GITWIRE_DONE
@@ -134,8 +135,10 @@ static bool lists(void)
 		&& answered(server, client) == 0
 		&& gitwire_client_ask(client, request).kind == GITWIRE_DONE
 		&& asked(client, server)
-		&& answered(server, client) == 1;
+		&& answered(server, client) == 1
+		&& gitwire_checker_new(&checker, GITWIRE_SHA1, GITWIRE_ENDS_BY_FLUSH, 1000) == GITWIRE_DONE;
 
+	gitwire_checker_free(checker);
 	gitwire_request_free(request);
 	gitwire_client_free(client);
 	gitwire_server_free(server);

@@ -150,7 +150,7 @@ static void try_names_of_kinds(void)
 	for (unsigned kind = 0; kind < 1024; kind++) {
 		size_t length = gitwire_kind_name((gitwire_result)kind, CHARACTERS);
 
-		EXPECT((length > 0) == (kind <= GITWIRE_SECTION) && length <= GITWIRE_KIND_NAME_SIZE);
+		EXPECT((length > 0) == (kind <= GITWIRE_FAILED_RESPONSES) && length <= GITWIRE_KIND_NAME_SIZE);
 	}
 	EXPECT(gitwire_kind_name(GITWIRE_NEED_INPUT, CHARACTERS) == 9 && memcmp(buffer, "NeedInput", 9) == 0);
 	EXPECT(gitwire_kind_name(GITWIRE_NEED_INPUT, (char *)buffer, 8) == 0);

@@ -1,5 +1,5 @@
 # Cases in which everything that the real Git's client and its server send to each other is recorded, and `git2show check` judges it: whole,
-# and damaged in many places.
+# and damaged in many places; and in which examples/check.c does, and prints the same.
 
 # record FOLDER [OPTION..]: a server of Git, each of whose streams is copied to a file.
 write_recorder() {
@@ -243,9 +243,9 @@ case_check_takes_lines_on_bands() {
     expect_line 'the transcript' 'argument sideband-all' transcript
 }
 
-# A response with the section that it asks for, which Git's server sends on side bands alone: the addresses pass, and what comes after them is the pack.
-case_check_takes_addresses_of_packs() {
-    local blob hash bytes
+# write_addresses_of_packs: a conversation whose response has the section that its request asks for, which Git's server sends on side bands alone.
+write_addresses_of_packs() {
+    local blob hash
     blob=$(git -C history-sha1 ls-tree -r HEAD | awk '$2 == "blob" { print $3; exit }')
     hash=$(printf 'e%.0s' {1..40})
     {
@@ -261,6 +261,12 @@ case_check_takes_addresses_of_packs() {
     GIT_TEST_SIDEBAND_ALL=1 GIT_PROTOCOL=version=2 git -c "uploadpack.blobPackfileUri=$blob $hash https://127.0.0.1:1/pack" \
         upload-pack history-sha1 < requests > responses
     grep -a -q "0013.packfile-uris" responses || differs 'no such section' responses
+}
+
+# The addresses pass, and what comes after them is the pack.
+case_check_takes_addresses_of_packs() {
+    local bytes
+    write_addresses_of_packs
     run git2show check requests responses
     expect_status 0
     cp out transcript
@@ -452,4 +458,134 @@ case_the_samples_are_taken() {
         esac
         takes_sample check --format $name /dev/null "$file"
     done
+}
+
+# prints_the_same CHUNKS [OPTION..] REQUESTS RESPONSES: that the checker in C prints of a conversation what `check` does, reports the same error and has the
+# same status, in chunks of each of these lengths. `where` is what has become of the conversation.
+prints_the_same() {
+    local chunks=$1 chunk wanted_status
+    shift
+    run git2show check "${@/--sha256/--format=sha256}"
+    cp out wanted
+    sed 's/^git2show: /check: /' err > wanted_err
+    wanted_status=$status
+    for chunk in $chunks; do
+        run "$checker" --chunk "$chunk" "$@"
+        expect "$wanted_status" wanted wanted_err
+        [ $well = yes ] || { echo "$where, in chunks of $chunk bytes" && exit 1; }
+    done
+}
+
+# checks_alike NAME REQUESTS RESPONSES [OPTION..]: that the checker in C judges a conversation as `check` does: whole, with either stream cut off at eight
+# places, and with another byte at each of them.
+checks_alike() {
+    local name=$1 checker=check-watched where="$1, whole" stream size number place
+    cp "$2" requests.whole
+    cp "$3" responses.whole
+    shift 3
+    prints_the_same '1 3 1000 65536' "$@" requests.whole responses.whole
+    checker=check
+    for stream in requests responses; do
+        size=$(wc -c < $stream.whole)
+        for number in {0..7}; do
+            place=$((size * number / 8 + number))
+            [ $place -lt "$size" ] || continue
+            cp requests.whole requests.tried
+            cp responses.whole responses.tried
+            where="$name, $stream cut off at $place"
+            head -c $place $stream.whole > $stream.tried
+            prints_the_same '3 1000 65536' "$@" requests.tried responses.tried
+            where="$name, $stream damaged at $place"
+            damaged $stream.whole $place > $stream.tried
+            prints_the_same '3 1000 65536' "$@" requests.tried responses.tried
+        done
+    done
+}
+
+case_a_checker_in_c_prints_what_check_prints() {
+    local sessions=$top/crates/worked_conversations/data/sessions name file
+    for name in clone fetch shallow-clone; do
+        checks_alike "the $name" "$top/sample/git-client/$name-requests.pkt" "$top/sample/git-client/$name-responses.pkt"
+    done
+    checks_alike 'the sample' "$top/sample/requests.pkt" "$top/sample/conversation.pkt"
+    for name in negotiation deepening wanted-references refused; do
+        checks_alike "the session $name" "$sessions/$name-requests.pkt" "$sessions/$name-responses.pkt"
+    done
+    checks_alike 'the session stateless' "$sessions/stateless-requests.pkt" "$sessions/stateless-responses.pkt" --stateless
+    for file in "$top"/sample/advertisements/*.pkt; do
+        name=
+        [[ $file != */sha256.pkt ]] || name=--sha256
+        checks_alike "${file##*/}" /dev/null "$file" $name
+    done
+    write_another_command
+    checks_alike 'another command' requests responses
+    write_another_command 0002
+    checks_alike 'another command without a state' requests responses --stateless
+}
+
+case_a_checker_in_c_prints_what_check_prints_of_recordings() {
+    rm -rf checked-clone
+    recorded clone -q 'ext::record history-sha1' checked-clone
+    checks_alike 'a clone' requests responses
+    rm -rf checked-clone
+    recorded clone -q 'ext::record history-sha256' checked-clone
+    checks_alike 'a clone of SHA-256' requests responses --sha256
+    grow judged history-sha1
+    both history-sha1 --no-tags
+    recorded -C ours fetch -q --no-tags 'ext::record judged.git' '+refs/heads/*:refs/remotes/origin/*'
+    checks_alike 'a fetch in rounds' requests responses
+    rm -rf ours theirs checked-clone
+    recorded clone -q --depth 1 'ext::record history-sha1' checked-clone
+    checks_alike 'a shallow clone' requests responses
+    rm -rf checked-clone
+    recorded -c transfer.advertiseSID=true clone -q 'ext::record history-sha1 -c transfer.advertiseSID=true' checked-clone
+    checks_alike 'a session-id' requests responses
+    rm -rf checked-clone
+    GIT_TEST_SIDEBAND_ALL=1 recorded clone -q 'ext::record history-sha1 -c uploadpack.advertiseSidebandAll=true' checked-clone
+    grep -a -q '0010sideband-all' requests || differs 'no such argument' requests
+    checks_alike 'lines on bands' requests responses
+    write_addresses_of_packs
+    checks_alike 'addresses of packs' requests responses
+    write_stateless_recorder
+    rm -rf checked-clone
+    recorded clone -q "stateless::$room/history-sha1" checked-clone
+    checks_alike 'sessions without a state' history-sha1.requests history-sha1.responses --stateless
+}
+
+# Megabytes of lines and of a pack.
+case_a_checker_in_c_takes_a_large_conversation() {
+    local checker=check where='a large conversation'
+    rm -rf checked-clone
+    recorded clone -q --mirror 'ext::record heavy' checked-clone
+    prints_the_same '100 65536' requests responses
+    grep -q '^end 2[0-9]\{7\} ' wanted || differs 'another end' wanted
+    {
+        packet 'version 2'
+        awk 'BEGIN { for (i = 0; i < 40000; i++) printf "0020key-%020d=12\n", i }'
+        printf 0000
+    } > responses
+    : > requests
+    where='an advertisement of many lines'
+    prints_the_same '1000 65536' requests responses
+    [ "$(wc -l < wanted)" = 40001 ] || differs 'another transcript' wanted
+}
+
+case_a_checker_in_c_tells_what_is_wrong() {
+    local words
+    cp "$top/sample/requests.pkt" "$top/sample/conversation.pkt" .
+    for words in '' requests.pkt 'requests.pkt conversation.pkt more' '--chunk 0 requests.pkt conversation.pkt' \
+        '--chunk 65537 requests.pkt conversation.pkt' '--chunk x requests.pkt conversation.pkt' '--chunk' '--format requests.pkt conversation.pkt'; do
+        run check-watched $words
+        expect 2 /dev/null <(echo 'usage: check [--sha256] [--stateless] [--chunk N] REQUESTS RESPONSES')
+    done
+    run check-watched requests.pkt nothing.here
+    expect 1 /dev/null <(echo 'check: a file cannot be opened')
+    run check-watched requests.pkt .
+    expect 1 /dev/null <(echo 'check: the responses cannot be read')
+    run check-watched --sha256 requests.pkt conversation.pkt
+    expect_status 1
+    grep -q -x 'check: responses: WrongFormat at [0-9]*' err || differs 'another error' err
+    tells_a_full_device check requests.pkt conversation.pkt
+    under_valgrind bin/check --chunk 7 requests.pkt conversation.pkt
+    expect 0 <(git2show check requests.pkt conversation.pkt) /dev/null
 }

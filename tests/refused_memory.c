@@ -105,6 +105,9 @@ static void expect_none_asked(long before, const char *what)
 #define REFUSED LS_REFS "0012command=fetch\n" "0001" "0032want " ONE "\n" "0016deepen-not refs/a\n" "0032want " TWO "\n"
 #define OFFERED "000eversion 2\n" "0012fetch=shallow\n" "0000"
 #define ANSWER "000dpackfile\n" "0007\001AB" "0008\002hi\n" "0008\003no\n"
+#define OTHER_OFFERED "000eversion 2\n" "0019fetch=shallow x-word\n" "0000"
+#define OTHER_FETCH "0012command=fetch\n" "0001" "000fx-word one\n" "0032want " ONE "\n" "0016deepen-not refs/a\n" "0009done\n" "0000"
+#define OTHER_ANSWER "000dpackfile\n" "0007\001AB" "0000"
 #define ALL_PACKETS 6 /* the command, the delimiter, a revision, a wanted object, `done`, and the flush */
 
 static uint8_t buffer[GITWIRE_PACKET_SIZE];
@@ -524,6 +527,58 @@ static void run_broken_conversation(void)
 	break_conversation_off(ALL_PACKETS, strlen(ANSWER));
 }
 
+/* Feeds a checker what it needs of both sides, until one of them has no more bytes. Pulling takes no memory. */
+static gitwire_answer feed_both(gitwire_checker *checker, const char *requests, size_t requests_length, const char *responses)
+{
+	size_t used = 0, used_of_responses = 0, length = strlen(responses);
+
+	for (;;) {
+		long before = asked;
+		gitwire_answer answer = gitwire_checker_pull(checker, (char *)buffer, sizeof buffer);
+
+		expect_none_asked(before, "memory for lines");
+		if (answer.kind == GITWIRE_NEED_REQUESTS && used < requests_length)
+			used += gitwire_checker_feed(checker, GITWIRE_STREAM_REQUESTS, (const uint8_t *)requests + used, requests_length - used).used;
+		else if (answer.kind == GITWIRE_NEED_RESPONSES && used_of_responses < length)
+			used_of_responses += gitwire_checker_feed(checker, GITWIRE_STREAM_RESPONSES, (const uint8_t *)responses + used_of_responses,
+				length - used_of_responses).used;
+		else if (answer.kind != GITWIRE_LINES)
+			return answer;
+	}
+}
+
+/* A conversation with what only the server knows, of whose requests so many bytes come, is good so far, or is refused as OutOfMemory. */
+static void check_so_far(size_t length)
+{
+	gitwire_checker *checker = NULL;
+	gitwire_answer answer;
+	bool is_whole = length == strlen(OTHER_FETCH);
+
+	if (IS_MADE(checker, gitwire_checker_new(&checker, GITWIRE_SHA1, GITWIRE_ENDS_BY_FLUSH, 1000), "a checker")) {
+		answer = feed_both(checker, OTHER_FETCH, length, OTHER_OFFERED OTHER_ANSWER);
+		if (is_whole && answer.kind == GITWIRE_NEED_REQUESTS && gitwire_checker_close(checker, GITWIRE_STREAM_REQUESTS) == GITWIRE_DONE
+			&& gitwire_checker_close(checker, GITWIRE_STREAM_RESPONSES) == GITWIRE_DONE)
+			answer = gitwire_checker_pull(checker, (char *)buffer, sizeof buffer);
+		expect(answer.kind == (is_whole ? GITWIRE_CHECKED : GITWIRE_NEED_REQUESTS)
+			|| ((answer.kind == GITWIRE_FAILED_REQUESTS || answer.kind == GITWIRE_FAILED_RESPONSES)
+				&& answer.fault == GITWIRE_FAULT_OUT_OF_MEMORY && refused > 0), "a conversation that is checked");
+	}
+	gitwire_checker_free(checker);
+	expect(live == 0, "what a checker kept");
+}
+
+static void run_checker(void)
+{
+	check_so_far(strlen(OTHER_FETCH));
+}
+
+/* A checker is freed wherever the requests break off. */
+static void run_broken_check(void)
+{
+	for (size_t length = 0; length < strlen(OTHER_FETCH); length += 35)
+		check_so_far(length);
+}
+
 /* Runs all, with this request for memory refused, and returns whether there was one. */
 static bool run(void (*scenario)(void), long at, bool after)
 {
@@ -538,8 +593,8 @@ static bool run(void (*scenario)(void), long at, bool after)
 int main(void)
 {
 	static void (*const scenarios[])(void) = { run_packet_reader, run_writer, run_request_reader, run_request, run_flags, run_repository,
-		run_filtered_repository, run_lent_repository, run_server, run_host, run_client, run_broken_requests, run_broken_session,
-		run_broken_conversation };
+		run_filtered_repository, run_lent_repository, run_server, run_host, run_client, run_checker, run_broken_requests, run_broken_session,
+		run_broken_conversation, run_broken_check };
 
 	for (size_t i = 0; i < sizeof scenarios / sizeof *scenarios; i++) {
 		long at = 0;

@@ -1,7 +1,7 @@
 #!/usr/bin/env bash
 # Tests the built program `git2show` from outside: as the real Git calls it (real_git.sh, clones.sh, partial_clones.sh and fetches.sh), over
 # HTTP (http_backend.sh, http.sh and web_servers.sh), and by hand (program.sh, and showing.sh for `show`); our client with the real Git
-# (asking.sh); what both sides of the real Git send, as `check` judges it (recorded.sh); both of our sides against each other (playing.sh);
+# (asking.sh); what both sides of the real Git send, as `check` and a program in C judge it (recorded.sh); both of our sides against each other (playing.sh);
 # the library for programs in C, as the examples use it (library.sh), one of them in the place of `git upload-pack` (upload_packs.sh,
 # upload_pack_faults.sh, and folders.sh behind the others), one as a daemon (daemon.sh), and one between both sides of the real Git
 # (watching.sh); a daemon and `serve` after a thousand malicious clients (soak.sh); and the pages of this repository, compared with what they

@@ -118,7 +118,14 @@ typedef enum gitwire_result {
 	GITWIRE_OUT_OF_ORDER = 43,      /* a reference does not come after the one reported before it; nothing changed */
 	GITWIRE_NOT_SHALLOW = 44,       /* an `unshallow` line of a commit that the request does not call shallow; nothing changed */
 	/* what a client receives, too */
-	GITWIRE_SECTION = 45            /* a section of the response to `fetch` begins */
+	GITWIRE_SECTION = 45,           /* a section of the response to `fetch` begins */
+	/* what a checker returns */
+	GITWIRE_LINES = 46,             /* lines of the transcript are in the buffer */
+	GITWIRE_NEED_REQUESTS = 47,     /* bytes that the client sent are needed, or their end: gitwire_checker_feed, _close */
+	GITWIRE_NEED_RESPONSES = 48,    /* bytes that the server sent are needed, or their end: gitwire_checker_feed, _close */
+	GITWIRE_CHECKED = 49,           /* the conversation is well-formed and whole */
+	GITWIRE_FAILED_REQUESTS = 50,   /* the requests are refused: `fault` is why, `offset` where in them */
+	GITWIRE_FAILED_RESPONSES = 51   /* the responses are refused: `fault` is why, `offset` where in them */
 } gitwire_result;
 
 /* Why something was refused: `fault` of what is returned, or 0. docs/PROTOCOL.md states the offset of each. */

@@ -1,4 +1,5 @@
 pub mod AsBox
+pub mod CopiedLines
 pub mod Determined
 pub mod FilledArrays
 pub mod FilledBuffers

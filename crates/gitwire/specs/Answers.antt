@@ -10,7 +10,7 @@ use Rattle.gitwire.specs.declared.answer.What.TheVariants.{Done, More, Failed, N
 use Rattle.gitwire.specs.declared.answer.What.TheVariants.{Payload, Flush, Delim, ResponseEnd, Request, Stop, Packet, NeedInput, EndedByFlush}
 use Rattle.gitwire.specs.declared.answer.What.TheVariants.{EndedByClose, CanAsk, Finished, Event}
 use Rattle.gitwire.specs.declared.answer.What.TheVariants.{Asked, NeedWant, NeedWantRef, NeedHave, NeedReady, NeedBoundary, NeedPack, NeedReference, NeedSize}
-use Rattle.gitwire.specs.declared.answer.What.TheVariants.{OutOfOrder, NotShallow}
+use Rattle.gitwire.specs.declared.answer.What.TheVariants.{OutOfOrder, NotShallow, Lines, NeedRequests, NeedResponses, Checked, FailedRequests, FailedResponses}
 
 -- its number in C
 abbrev pub what_number : What → ℕ
@@ -60,6 +60,12 @@ what_number NeedSize = 42
 what_number OutOfOrder = 43
 what_number NotShallow = 44
 what_number (Event EventKind.Section) = 45
+what_number Lines = 46
+what_number NeedRequests = 47
+what_number NeedResponses = 48
+what_number Checked = 49
+what_number FailedRequests = 50
+what_number FailedResponses = 51
 
 -- what is reported for a chunk if nothing else is: more is to come, or none was expected
 abbrev pub more_of : Bool → What
@@ -81,6 +87,10 @@ answering_packet used offset filled what = record { used = used; offset = offset
 -- a refusal
 abbrev pub answering_fault : ℕ → Fault → GitwireAnswer
 answering_fault used fault = record { used = used; offset = fault.offset; length = 0; kind = what_number Failed; fault = kind_number fault.kind }
+
+-- a refusal of this kind
+abbrev pub answering_fault_in : What → Fault → GitwireAnswer
+answering_fault_in what fault = record { used = 0; offset = fault.offset; length = 0; kind = what_number what; fault = kind_number fault.kind }
 
 -- the end of a session
 abbrev pub ending : Outcome → GitwireAnswer

@@ -9,8 +9,9 @@ use Rattle.git_server.specs.declared.server.Server.{Server}
 use Rattle.git_server.specs.declared.shared_repo.SharedRepo.{SharedRepo}
 use Rattle.git_host.specs.declared.host_server.HostServer.{HostServer}
 use Rattle.git_client.specs.declared.client.Client.{Client}
+use Rattle.gitwire.specs.declared.judge.Judge.{Judge}
 use Rattle.gitwire.specs.declared.gatherer.Gatherer.{Gatherer}
-use Rattle.gitwire.specs.Machines.{machine_as, gatherer_of, request_reader_of, request_of, repository_of, server_of, client_of, buffer_of, host_of}
+use Rattle.gitwire.specs.Machines.{machine_as, gatherer_of, request_reader_of, request_of, repository_of, server_of, client_of, buffer_of, host_of, judge_of}
 use Rattle.gitwire.specs.declared.machine.PacketBuffer.{PacketBuffer}
 use Rattle.gitwire.specs.declared.handles.GitwirePacketReader.{GitwirePacketReader}
 use Rattle.gitwire.specs.declared.handles.GitwireRequestReader.{GitwireRequestReader}
@@ -20,6 +21,7 @@ use Rattle.gitwire.specs.declared.handles.GitwireServer.{GitwireServer}
 use Rattle.gitwire.specs.declared.handles.GitwireClient.{GitwireClient}
 use Rattle.gitwire.specs.declared.handles.GitwireWriter.{GitwireWriter}
 use Rattle.gitwire.specs.declared.handles.GitwireHost.{GitwireHost}
+use Rattle.gitwire.specs.declared.handles.GitwireChecker.{GitwireChecker}
 
 -- the packet reader of a handle, which gathers
 abbrev pub gatherer_in : GitwirePacketReader → Option Gatherer
@@ -52,6 +54,10 @@ client_in handle = machine_as client_of handle.handle.held.machine
 -- the host's server of a handle
 abbrev pub host_in : GitwireHost → Option (HostServer Global)
 host_in handle = machine_as host_of handle.handle.held.machine
+
+-- the checker of a handle
+abbrev pub judge_in : GitwireChecker → Option Judge
+judge_in handle = machine_as judge_of handle.handle.held.machine
 
 -- the packet buffer of a handle
 abbrev pub buffer_in : GitwireWriter → Option PacketBuffer

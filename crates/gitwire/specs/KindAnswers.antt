@@ -53,6 +53,12 @@ what_name What.NeedSize = codes "NeedSize"
 what_name What.OutOfOrder = codes "OutOfOrder"
 what_name What.NotShallow = codes "NotShallow"
 what_name (What.Event EventKind.Section) = codes "Section"
+what_name What.Lines = codes "Lines"
+what_name What.NeedRequests = codes "NeedRequests"
+what_name What.NeedResponses = codes "NeedResponses"
+what_name What.Checked = codes "Checked"
+what_name What.FailedRequests = codes "FailedRequests"
+what_name What.FailedResponses = codes "FailedResponses"
 
 -- what has this number, or nothing has it
 abbrev pub IsWhatOf : ℕ → Option What → Type 0

@@ -1,5 +1,6 @@
 pub mod Answers
 pub mod Calls
+pub mod CheckerAnswers
 pub mod ClientAnswers
 pub mod EscapeAnswers
 pub mod EventAnswers

@@ -7,6 +7,7 @@ use Rattle.git_server.specs.declared.server.Server.{Server}
 use Rattle.git_server.specs.declared.shared_repo.SharedRepo.{SharedRepo}
 use Rattle.git_host.specs.declared.host_server.HostServer.{HostServer}
 use Rattle.git_client.specs.declared.client.Client.{Client}
+use Rattle.gitwire.specs.declared.judge.Judge.{Judge}
 use Rattle.gitwire.specs.declared.gatherer.Gatherer.{Gatherer}
 use Rattle.gitwire.specs.declared.machine.Machine.{Machine}
 use Rattle.gitwire.specs.declared.machine.PacketBuffer.{PacketBuffer}
@@ -45,6 +46,11 @@ client_of other = None
 abbrev pub host_of : Machine → Option (HostServer Global)
 host_of (Machine.Host host) = Some host.value
 host_of other = None
+
+-- the checker that a machine is
+abbrev pub judge_of : Machine → Option Judge
+judge_of (Machine.Checker judge) = Some judge.value
+judge_of other = None
 
 -- the packet buffer that a machine is
 abbrev pub buffer_of : Machine → Option PacketBuffer

@@ -92,6 +92,18 @@ pub enum What {
     OutOfOrder,
     /// A line of the shallow boundary is an `unshallow` of a commit that the request does not call shallow. Nothing changed.
     NotShallow,
+    /// Lines of a transcript, which are in the buffer.
+    Lines,
+    /// Bytes of the requests are needed, or their end.
+    NeedRequests,
+    /// Bytes of the responses are needed, or their end.
+    NeedResponses,
+    /// A conversation was checked to its end, and all of it is well-formed.
+    Checked,
+    /// The requests of a conversation are refused: `fault` is why, and `offset` where in the requests.
+    FailedRequests,
+    /// The responses of a conversation are refused: `fault` is why, and `offset` where in the responses.
+    FailedResponses,
 }
 
 /// Each kind, with its number and its name in C: the macro `$reads` makes a `match` on `$from` of them.
@@ -144,6 +156,12 @@ macro_rules! kinds {
             OutOfOrder = 43 "OutOfOrder";
             NotShallow = 44 "NotShallow";
             Event(Section) = 45 "Section";
+            Lines = 46 "Lines";
+            NeedRequests = 47 "NeedRequests";
+            NeedResponses = 48 "NeedResponses";
+            Checked = 49 "Checked";
+            FailedRequests = 50 "FailedRequests";
+            FailedResponses = 51 "FailedResponses";
         }
     };
 }
@@ -171,7 +189,7 @@ impl What {
         }
     }
 
-    /// Its number in C, from 0 to 45.
+    /// Its number in C, from 0 to 51.
     pub fn number(self) -> u32
         ensures { result ≡ what_number self }
     {
@@ -180,7 +198,7 @@ impl What {
 }
 
 impl GitwireAnswer {
-    ghost use Rattle.gitwire.specs.Answers.{answering, answering_used, answering_packet, answering_fault, ending};
+    ghost use Rattle.gitwire.specs.Answers.{answering, answering_used, answering_packet, answering_fault, answering_fault_in, ending};
 
     /// A result, and nothing more.
     pub(crate) fn of(what: What) -> GitwireAnswer
@@ -215,9 +233,19 @@ impl GitwireAnswer {
     {
         GitwireAnswer {
             used,
+            ..GitwireAnswer::of_fault_in(What::Failed, fault)
+        }
+    }
+
+    /// A refusal of this kind.
+    pub(crate) fn of_fault_in(what: What, fault: Fault) -> GitwireAnswer
+        ensures { result ≡ answering_fault_in what fault }
+    {
+        GitwireAnswer {
+            used: 0,
             offset: fault.offset,
             length: 0,
-            kind: What::Failed.number(),
+            kind: what.number(),
             fault: u32::from(fault.kind.number()),
         }
     }

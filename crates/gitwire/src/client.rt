@@ -68,7 +68,7 @@ fn choice_numbered(number: u32) -> Option<Option<Format>>
 }
 
 /// The ending that C means by this number; none if there is no such ending.
-fn ending_numbered(number: u32) -> Option<Ending>
+pub(crate) fn ending_numbered(number: u32) -> Option<Ending>
     ensures { result ≡ numbered endings number }
 {
     match number {

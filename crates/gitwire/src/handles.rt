@@ -2,11 +2,13 @@
 
 ghost use Rattle.std.specs.Prelude.{◌≡◌, Option, Some, None, MatchOption, true};
 ghost use Rattle.gitwire.specs.Calls.{IsMade};
-ghost use Rattle.gitwire.specs.Machines.{is_none_or, gatherer_of, request_reader_of, request_of, repository_of, server_of, client_of, buffer_of, host_of};
+ghost use Rattle.gitwire.specs.Machines.{is_none_or, gatherer_of, request_reader_of, request_of, repository_of, server_of, client_of, buffer_of};
+ghost use Rattle.gitwire.specs.Machines.{host_of, judge_of};
 
 use crate::answer::What;
 use crate::gatherer::Gatherer;
 use crate::held::{Handle, Shell};
+use crate::judge::Judge;
 use crate::machine::{Machine, PacketBuffer};
 use git_client::Client;
 use git_host::HostServer;
@@ -349,5 +351,37 @@ impl Holds for GitwireHost {
         ensures { host_in self.new ≡ Some taken.inner.value }
     {
         self.handle = taken.shell.shut(Machine::Host(taken.inner));
+    }
+}
+
+/// A checker of a conversation, or none.
+#[repr(C)]
+#[derive(Drop)]
+pub struct GitwireChecker {
+    handle: Handle,
+    ghost kind: { is_none_or judge_of handle.held.machine ≡ true },
+}
+
+impl Holds for GitwireChecker {
+    ghost use Rattle.gitwire.specs.Handles.{judge_in};
+
+    type Inner = Judge;
+
+    ghost has = { judge_in };
+
+    fn none(alloc: Global) -> Self {
+        GitwireChecker {
+            handle: Handle::none(alloc),
+        }
+    }
+
+    fn take(&mut self, alloc: Global) -> Option<Taken<Self::Inner>> {
+        opened!(Checker, replace(self, Self::none(alloc)))
+    }
+
+    fn put(&mut self, taken: Taken<Self::Inner>)
+        ensures { judge_in self.new ≡ Some taken.inner.value }
+    {
+        self.handle = taken.shell.shut(Machine::Checker(taken.inner));
     }
 }

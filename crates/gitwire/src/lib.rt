@@ -4,6 +4,7 @@
 
 mod answer;
 mod buffers;
+mod checker;
 mod client;
 mod escape;
 mod event;
@@ -17,6 +18,7 @@ mod host;
 mod host_reports;
 mod host_request;
 mod host_texts;
+mod judge;
 mod kinds;
 pub mod laws;
 mod line_writers;
@@ -42,8 +44,8 @@ pub use answer::{GitwireAnswer, What};
 pub use event::GitwireEvent;
 pub use greetings::GitwireGreeting;
 pub use handles::{
-    GitwireClient, GitwireHost, GitwirePacketReader, GitwireRepository, GitwireRequest,
-    GitwireRequestReader, GitwireServer, GitwireWriter,
+    GitwireChecker, GitwireClient, GitwireHost, GitwirePacketReader, GitwireRepository,
+    GitwireRequest, GitwireRequestReader, GitwireServer, GitwireWriter,
 };
 pub use packets_in_place::GitwirePayload;
 pub use static_texts::GitwireText;

@@ -3,6 +3,7 @@
 ghost use Rattle.std.specs.Prelude.{◌≡◌, Some};
 
 use crate::gatherer::Gatherer;
+use crate::judge::Judge;
 use git_client::Client;
 use git_host::HostServer;
 use git_msg::{Request, RequestStream};
@@ -21,6 +22,7 @@ pub(crate) enum Machine {
     Client(Box<Client<Global>, Global>),
     Writer(Box<PacketBuffer, Global>),
     Host(Box<HostServer<Global>, Global>),
+    Checker(Box<Judge, Global>),
     /// None of them, while a call has it.
     Empty,
 }

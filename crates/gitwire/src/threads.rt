@@ -1,8 +1,8 @@
 //! What C holds may go from one thread to another.
 
 use crate::handles::{
-    GitwireClient, GitwireHost, GitwirePacketReader, GitwireRepository, GitwireRequest,
-    GitwireRequestReader, GitwireServer, GitwireWriter,
+    GitwireChecker, GitwireClient, GitwireHost, GitwirePacketReader, GitwireRepository,
+    GitwireRequest, GitwireRequestReader, GitwireServer, GitwireWriter,
 };
 use crate::machine::Machine;
 
@@ -19,4 +19,5 @@ pub fn handles_are_send() {
     is_sent::<GitwireClient>();
     is_sent::<GitwireWriter>();
     is_sent::<GitwireHost>();
+    is_sent::<GitwireChecker>();
 }

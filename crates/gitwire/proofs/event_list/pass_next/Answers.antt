@@ -1,4 +1,4 @@
-use Rattle.std.proofs.Common.{arith, ◌≡◌, ◌≤◌, ◌+◌, ◌-◌, ℕ, ap, refl, set, subst, take, drop, length}
+use Rattle.std.proofs.Common.{arith, ◌≤◌, ◌+◌, ◌-◌, ℕ, ap, refl, set, subst, take, drop, length}
 use Rattle.std.proofs.lemmas.List.{take_rest}
 use Rattle.git_pkt.specs.Packets.{longest_payload}
 use Rattle.git_client.specs.Events.{all_parts_length}
