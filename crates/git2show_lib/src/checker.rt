@@ -1,4 +1,17 @@
 //! A judge of a conversation as a machine: it is fed the bytes of both streams, and lends the lines of the transcript.
+//!
+//! ```text
+//!  Opening -- the advertisement is whole --> Request
+//!
+//!  Request -- a request is asked ----------> Response --+
+//!     |    -- one whose response is sieved -> Sieved ---+-- the response is whole --> Request
+//!     |    -- a command that is not known --> Passing --+
+//!     |
+//!     +-- a flush instead of a request, or the end of the requests --> End -- the end of the responses --> Over
+//!
+//!  A fault leads from each turn to Over, and so does the end of a stream inside a message. In each turn lines may wait: they are taken before
+//!  more bytes are used.
+//! ```
 
 ghost use Rattle.std.specs.Prelude.{◌≡◌, ◌⊎◌, ◌+◌, ◌++◌, ◌∷◌, ◌≤◌, ◌<◌, [], ℕ, List, length, min, take, Err, IsSome, false, true};
 ghost use Rattle.git_client.specs.Parts.{Terms, terms_of};
