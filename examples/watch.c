@@ -1,57 +1,58 @@
 /*
- * Runs between a client and its server, passes on what either sends, and prints the transcript of both:
+ * Runs between a client and its server, passes on what either sends, and prints the transcript of both, the lines of `git2show check`:
  *
  *     watch [--sha256] [--transcript FILE] COMMAND [WORD..]
  *
- * The client is on standard input and output, and COMMAND starts the server. The transcript (judge.h) goes to standard error, or to the
- * named file. A packet goes on once it is whole and judged. The first that is malformed, or is not allowed where it comes, is reported by
- * name and offset, to the client too; it does not go on, nor does what comes after it, and the conversation ends.
+ * The client is on standard input and output, and COMMAND starts the server. The transcript goes to standard error, or to the named file. A
+ * packet goes on once it is whole and judged. The first that is malformed, or is not allowed where it comes, is reported by name and offset,
+ * to the client too; it does not go on, nor does what comes after it, and the conversation ends.
  *
  *     git clone --upload-pack "watch git upload-pack" "file://$PWD/FOLDER" CLONE
  *
  * The client has its turn until a request is whole, and the server until it has answered: what one sends before its turn waits. For each
- * side there is a buffer of one packet, and one in the library; beside them the library keeps what the arguments of one request take. There
- * is no limit on time: if untrusted clients can reach the host, it has to limit each turn.
+ * side there is a buffer of one packet, and one in its reader of packets; beside them the library has what gitwire_checker(3) says. There is
+ * no limit on time: if untrusted clients can reach the host, it has to limit each turn.
  */
 #define _POSIX_C_SOURCE 200809L
-#include "judge.h"
+#include <gitwire.h>
+
 #include "start_program.h"
 
 #include <errno.h>
-#include <limits.h>
 #include <poll.h>
+#include <stdio.h>
 #include <stdlib.h>
+#include <string.h>
 #include <sys/wait.h>
 
 /* What one side sends to the other. */
 struct stream {
 	const char *name;
+	gitwire_stream number;
+	gitwire_result turn, refused;       /* what the checker needs at this side's turn, and its verdict against this side */
 	int from, to;                       /* -1 once it has ended; -1 once nobody reads it any more */
-	gitwire_packet_reader *packets;
-	uint64_t offset;                    /* where the next packet to be judged begins */
-	size_t sent, judged, read, end;     /* of the bytes here: how many went on, may go on, were read as packets, have come */
+	gitwire_packet_reader *packets;     /* finds where a packet ends */
+	size_t judged, read, end;           /* of the bytes here: how many may go on, were read as packets, have come */
 	uint8_t bytes[GITWIRE_PACKET_SIZE];
 };
 
-static struct stream requests = { .name = "requests", .from = STDIN_FILENO };
-static struct stream responses = { .name = "responses", .to = STDOUT_FILENO };
-static struct judge judge;
+static struct stream requests = {
+	"requests", GITWIRE_STREAM_REQUESTS, GITWIRE_NEED_REQUESTS, GITWIRE_FAILED_REQUESTS, .from = STDIN_FILENO,
+};
+static struct stream responses = {
+	"responses", GITWIRE_STREAM_RESPONSES, GITWIRE_NEED_RESPONSES, GITWIRE_FAILED_RESPONSES, .to = STDOUT_FILENO,
+};
+static gitwire_checker *checker;
+static gitwire_answer next;             /* what the checker needs, or the verdict */
+static uint64_t request_at;             /* where the client's request begins, the unfinished or else the next one */
+static bool has_left;                   /* the client asks no more */
+static bool on_band;                    /* the server's last packet was one of a side band */
+static FILE *transcript;
 
 static int report(const char *what)
 {
 	fprintf(stderr, "watch: %s\n", what);
 	return 1;
-}
-
-/* Drops the bytes that went on, if no others may go on yet. */
-static void drop_sent(struct stream *stream)
-{
-	if (stream->sent < stream->judged)
-		return;
-	stream->read -= stream->judged;
-	stream->end -= stream->judged;
-	memmove(stream->bytes, stream->bytes + stream->judged, stream->end);
-	stream->sent = stream->judged = 0;
 }
 
 /* Receives bytes, as many as fit, or the end of the stream. */
@@ -67,92 +68,135 @@ static void take_in(struct stream *stream)
 	}
 }
 
-/* Writes what may go on, as much as a pipe takes without waiting. Returns whether somebody reads it. */
+/* Passes on all that may go on, and drops it here. Returns whether somebody reads it. */
 static bool pass_on(struct stream *stream)
 {
-	size_t part = stream->judged - stream->sent;
-	ssize_t count = write(stream->to, stream->bytes + stream->sent, part < PIPE_BUF ? part : PIPE_BUF);
+	struct pollfd ready = { .fd = stream->to, .events = POLLOUT };
+	size_t sent = 0;
+	bool is_read = stream->to >= 0;
 
-	if (count < 0)
-		return errno == EINTR || errno == EAGAIN;
-	stream->sent += (size_t)count;
-	drop_sent(stream);
-	return true;
+	while (is_read && sent < stream->judged) {
+		ssize_t count = poll(&ready, 1, -1) < 0 ? -1 : write(stream->to, stream->bytes + sent, stream->judged - sent);
+
+		if (count >= 0)
+			sent += (size_t)count;
+		else
+			is_read = errno == EINTR || errno == EAGAIN;
+	}
+	stream->read -= stream->judged;
+	stream->end -= stream->judged;
+	memmove(stream->bytes, stream->bytes + stream->judged, stream->end);
+	stream->judged = 0;
+	return is_read;
+}
+
+static void refuse(const struct stream *stream, gitwire_fault fault, uint64_t offset)
+{
+	next = (gitwire_answer){ .kind = stream->refused, .fault = fault, .offset = offset };
+}
+
+static bool is_refused(void)
+{
+	return next.kind == requests.refused || next.kind == responses.refused;
+}
+
+/* Whether what is refused reports an error to the other side, and so has to reach it. */
+static bool reports_an_error(void)
+{
+	return next.fault == GITWIRE_FAULT_REMOTE_ERROR || next.fault == GITWIRE_FAULT_REMOTE_FATAL;
+}
+
+/* Writes the lines that the checker has, and notes what it needs after them. */
+static void take_lines(void)
+{
+	char lines[4096];
+
+	while ((next = gitwire_checker_pull(checker, lines, sizeof lines)).kind == GITWIRE_LINES)
+		fwrite(lines, 1, next.length, transcript);
+}
+
+/* Feeds the checker the bytes up to here that are not judged, at their turn. */
+static void feed(const struct stream *stream, size_t end)
+{
+	size_t at = stream->judged;
+
+	while (at < end && next.kind == stream->turn) {
+		at += gitwire_checker_feed(checker, stream->number, stream->bytes + at, end - at).used;
+		take_lines();
+	}
+}
+
+/* Judges the packet that ends where the reading of packets has come to. */
+static void judge_packet(struct stream *stream, gitwire_answer packet)
+{
+	size_t length = stream->read - stream->judged;
+	uint8_t first = length > 4 ? stream->bytes[stream->judged + 4] : 0;
+
+	if (packet.kind == GITWIRE_FAILED)
+		refuse(stream, packet.fault, packet.offset);
+	else if (next.kind != stream->turn)
+		refuse(stream, GITWIRE_FAULT_REMOTE_ERROR, packet.offset); /* the server may refuse a request that is not whole */
+	else
+		feed(stream, stream->read);
+	if (stream == &requests && next.kind == responses.refused)
+		refuse(stream, next.fault, request_at); /* it may not be asked */
+	if (is_refused() && !reports_an_error())
+		return;
+	if (stream == &requests && next.kind == responses.turn) {
+		has_left = packet.offset == request_at; /* a flush packet alone */
+		request_at = packet.offset + length;
+	}
+	if (stream == &responses)
+		on_band = first == GITWIRE_BAND_PACK || first == GITWIRE_BAND_PROGRESS;
+	stream->judged = stream->read;
 }
 
 /* Whether the next packet of a stream may be judged: at its turn, and an error packet of the server at any time. */
 static bool has_turn(const struct stream *stream)
 {
 	const uint8_t *text = stream->bytes + stream->judged + 4;
-	gitwire_result next = expected(&judge);
 
-	if (stream == &requests)
-		return next == GITWIRE_CAN_ASK;
-	return next == GITWIRE_NEED_INPUT || (stream->end - stream->judged >= 8 && memcmp(text, "ERR ", 4) == 0);
+	return next.kind == stream->turn
+		|| (stream == &responses && stream->end - stream->judged >= 8 && memcmp(text, "ERR ", 4) == 0);
 }
 
-/* Judges the packet that ends where the reading of packets has come to. */
-static gitwire_answer judge_packet(struct stream *stream)
-{
-	struct packet packet = { stream->bytes + stream->judged, stream->read - stream->judged, stream->offset };
-	gitwire_answer answer = stream == &requests ? judge_request(&judge, packet) : judge_response(&judge, packet);
-
-	if (answer.kind != GITWIRE_FAILED || reports_an_error(answer)) {
-		stream->judged = stream->read;
-		stream->offset += packet.length;
-	}
-	return answer;
-}
-
-/* Judges the packets that are whole, and that none comes after the last one allowed. Returns FAILED, with the error and its offset, or anything else. */
-static gitwire_answer judge_packets(struct stream *stream)
+/* Judges the packets of a stream that are whole, and its end once they are judged, if it is its turn. */
+static void judge(struct stream *stream)
 {
 	static uint8_t payload[GITWIRE_PAYLOAD_SIZE];
-	gitwire_answer answer = { .kind = GITWIRE_MORE };
+	gitwire_answer packet;
 
-	while (stream->read < stream->end && (stream->read > stream->judged || has_turn(stream))) {
-		answer = gitwire_packet_reader_feed(stream->packets, stream->bytes + stream->read, stream->end - stream->read, payload,
+	if (has_left)
+		feed(stream, stream->end); /* nothing may follow the last response, not even a part of a packet */
+	while (!is_refused() && stream->read < stream->end && (stream->read > stream->judged || has_turn(stream))) {
+		packet = gitwire_packet_reader_feed(stream->packets, stream->bytes + stream->read, stream->end - stream->read, payload,
 			sizeof payload);
-		stream->read += answer.used;
-		if (answer.kind != GITWIRE_FAILED && answer.kind != GITWIRE_MORE)
-			answer = judge_packet(stream);
-		if (answer.kind == GITWIRE_FAILED)
-			return answer;
+		stream->read += packet.used;
+		if (packet.kind != GITWIRE_MORE)
+			judge_packet(stream, packet);
 	}
-	if (stream == &responses && stream->read < stream->end && expected(&judge) == GITWIRE_FINISHED)
-		return refusal(GITWIRE_FAULT_UNEXPECTED_PACKET, stream->offset);
-	return answer;
-}
-
-/* Judges the end of a stream whose packets are all judged, if it is its turn. */
-static gitwire_answer judge_end(struct stream *stream)
-{
-	gitwire_answer answer = gitwire_packet_reader_close(stream->packets);
-
-	if (answer.kind == GITWIRE_FAILED || !has_turn(stream))
-		return answer;
-	return stream == &requests ? judge_last_request(&judge, stream->offset) : judge_last_response(&judge, stream->offset);
-}
-
-/* Judges what has come of a stream, and its end. */
-static gitwire_answer judge_stream(struct stream *stream)
-{
-	gitwire_answer answer = judge_packets(stream);
-
-	if (answer.kind == GITWIRE_FAILED || stream->from >= 0 || stream->read < stream->end)
-		return answer;
-	return judge_end(stream);
+	if (is_refused() || stream->from >= 0 || stream->read < stream->end)
+		return;
+	packet = gitwire_packet_reader_close(stream->packets);
+	if (packet.kind == GITWIRE_FAILED) {
+		refuse(stream, packet.fault, packet.offset);
+	} else if (next.kind == stream->turn) {
+		gitwire_checker_close(checker, stream->number);
+		take_lines();
+		has_left |= stream == &requests;
+	}
 }
 
 /* Reports to the client, where its user sees it, why the conversation ends: inside a pack on a side band, otherwise in an error packet. */
 static void report_to_client(const char *text, size_t length)
 {
+	static uint8_t buffer[GITWIRE_PACKET_SIZE];
 	gitwire_writer *writer;
 	gitwire_answer answer;
 
 	if (gitwire_writer_new(&writer) != GITWIRE_DONE)
 		return;
-	if (judge.pack + judge.progress > 0)
+	if (on_band)
 		answer = gitwire_put_band(writer, GITWIRE_BAND_FATAL, (const uint8_t *)text, length, buffer, sizeof buffer);
 	else
 		answer = gitwire_put_error(writer, text, length, buffer, sizeof buffer);
@@ -161,37 +205,19 @@ static void report_to_client(const char *text, size_t length)
 	gitwire_writer_free(writer);
 }
 
-/* Passes on all that may go on, as long as somebody reads it. */
-static void pass_all_on(struct stream *stream)
-{
-	struct pollfd ready = { .fd = stream->to, .events = POLLOUT };
-
-	while (stream->to >= 0 && stream->sent < stream->judged)
-		if ((poll(&ready, 1, -1) < 0 && errno != EINTR) || !pass_on(stream))
-			return;
-}
-
 /* Ends the conversation: what was judged goes on, and so does an error that one side sent to the other. */
-static int refuse(struct stream *stream, gitwire_answer answer)
+static int end_refused(void)
 {
 	char text[GITWIRE_FAULT_TEXT_SIZE];
-	size_t length = gitwire_fault_text(answer.fault, answer.offset, text, sizeof text);
+	size_t length = gitwire_fault_text(next.fault, next.offset, text, sizeof text);
 
-	fflush(judge.transcript);
-	fprintf(stderr, "watch: %s: %.*s\n", stream->name, (int)length, text);
-	pass_all_on(&responses);
-	if (reports_an_error(answer))
-		pass_all_on(&requests);
+	fprintf(stderr, "watch: %s: %.*s\n", next.kind == requests.refused ? requests.name : responses.name, (int)length, text);
+	pass_on(&responses);
+	if (reports_an_error())
+		pass_on(&requests);
 	else
 		report_to_client(text, length);
 	return 1;
-}
-
-/* What to wait for: bytes, if they fit, and somebody who reads those that may go on. */
-static void await(struct stream *stream, struct pollfd *polled)
-{
-	polled[0] = (struct pollfd){ .fd = stream->end < sizeof stream->bytes ? stream->from : -1, .events = POLLIN };
-	polled[1] = (struct pollfd){ .fd = stream->sent < stream->judged ? stream->to : -1, .events = POLLOUT };
 }
 
 /* The server receives no more: what the client sends now goes nowhere. */
@@ -200,46 +226,39 @@ static void close_server(void)
 	if (requests.to >= 0)
 		close(requests.to);
 	requests.to = -1;
-	requests.sent = requests.judged;
-	drop_sent(&requests);
-}
-
-/* Whether the server has ended, nothing more was expected of it, and everything that it sent has gone on. */
-static bool is_over(void)
-{
-	return responses.from < 0 && responses.end == 0 && expected(&judge) != GITWIRE_NEED_INPUT;
 }
 
 /* Passes on what both send until the server ends. Returns the exit status. */
 static int watch(void)
 {
+	take_lines();
 	for (;;) {
-		struct pollfd polled[4];
-		gitwire_answer answer;
+		struct pollfd polled[2];
 
-		answer = judge_stream(&requests);
-		if (answer.kind == GITWIRE_FAILED)
-			return refuse(&requests, answer);
-		answer = judge_stream(&responses);
-		if (answer.kind == GITWIRE_FAILED)
-			return refuse(&responses, answer);
-		if (is_over())
-			return 0;
-		if (requests.to < 0 || (requests.sent == requests.judged && expected(&judge) == GITWIRE_FINISHED))
+		judge(&requests);
+		judge(&responses);
+		fflush(transcript);
+		if (is_refused())
+			return end_refused();
+		if (requests.judged + responses.judged > 0) {
+			if (!pass_on(&requests))
+				close_server();
+			if (!pass_on(&responses))
+				return report("the client is gone");
+			continue; /* what waits of the other side may have its turn now */
+		}
+		if (has_left)
 			close_server();
-		await(&requests, polled);
-		await(&responses, polled + 2);
-		fflush(judge.transcript);
-		if (poll(polled, 4, -1) < 0 && errno != EINTR)
+		if (responses.from < 0 && responses.end == 0 && next.kind != responses.turn)
+			return 0;
+		polled[0] = (struct pollfd){ .fd = requests.end < sizeof requests.bytes ? requests.from : -1, .events = POLLIN };
+		polled[1] = (struct pollfd){ .fd = responses.end < sizeof responses.bytes ? responses.from : -1, .events = POLLIN };
+		if (poll(polled, 2, -1) < 0 && errno != EINTR)
 			return report(strerror(errno));
 		if (polled[0].revents)
 			take_in(&requests);
-		if (polled[1].revents && !pass_on(&requests))
-			close_server();
-		if (polled[2].revents)
+		if (polled[1].revents)
 			take_in(&responses);
-		if (polled[3].revents && !pass_on(&responses))
-			return report("the client is gone");
 	}
 }
 
@@ -265,9 +284,9 @@ int main(int count, char **words)
 {
 	gitwire_format format = GITWIRE_SHA1;
 	const char *name = NULL;
-	FILE *transcript = stderr;
 	int status, at = 1;
 
+	transcript = stderr;
 	for (; at < count && strncmp(words[at], "--", 2) == 0; at++) {
 		if (strcmp(words[at], "--sha256") == 0)
 			format = GITWIRE_SHA256;
@@ -283,12 +302,13 @@ int main(int count, char **words)
 	if (name != NULL && (transcript = fopen(name, "w")) == NULL)
 		return report("the transcript cannot be opened");
 	setvbuf(transcript, NULL, _IOFBF, BUFSIZ); /* it is flushed before each wait */
-	if (!begin_judge(&judge, format, transcript) || gitwire_packet_reader_new(&requests.packets) != GITWIRE_DONE
+	if (gitwire_checker_new(&checker, format, GITWIRE_ENDS_BY_FLUSH, GITWIRE_DEFAULT_LIMIT) != GITWIRE_DONE
+		|| gitwire_packet_reader_new(&requests.packets) != GITWIRE_DONE
 		|| gitwire_packet_reader_new(&responses.packets) != GITWIRE_DONE)
 		status = report("no memory");
 	else
 		status = watch_server(words + at);
-	end_judge(&judge);
+	gitwire_checker_free(checker);
 	gitwire_packet_reader_free(requests.packets);
 	gitwire_packet_reader_free(responses.packets);
 	if (fflush(transcript) != 0 || ferror(transcript))

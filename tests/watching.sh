@@ -22,25 +22,6 @@ over_watched() {
     run git -c protocol.version=2 -c protocol.ext.allow=always "$@"
 }
 
-# told_by_the_watcher: the transcript, without its arrows and offsets.
-told_by_the_watcher() {
-    cut -d ' ' -f 3- watched.transcript
-}
-
-# stands_in_its_place: that each line of the transcript has the offset of a packet, and the line of a reference or a request that of its own packet.
-stands_in_its_place() {
-    limited git2show show < requests | cut -c 1-200 | sed 's/^/> /' > packets
-    limited git2show show < responses | cut -c 1-200 | sed 's/^/< /' >> packets
-    awk '
-        FNR == NR { packets[$1 " " $2] = $0; next }
-        { packet = packets[$1 " " $2] }
-        packet == "" { print "no packet at the offset of: " $0 }
-        $3 == "ref" && index(packet, " " $4 " ") == 0 { print "another packet than that of: " $0 }
-        $3 == "request" && index(packet, " command=" $4) == 0 { print "another packet than that of: " $0 }
-    ' packets watched.transcript > misplaced
-    expect_same 'the offsets of the transcript' /dev/null misplaced
-}
-
 # passed_on: that each side received what the other sent, and the watcher reported nothing.
 passed_on() {
     expect_same 'what the server got' said requests
@@ -52,8 +33,7 @@ passed_on() {
 went_on() {
     passed_on
     run git2show check "$@" requests responses
-    expect 0 <(told_by_the_watcher) /dev/null
-    stands_in_its_place
+    expect 0 watched.transcript /dev/null
 }
 
 # clones_over_the_watcher NAME [OPTION..]: that Git gets the same clone over the watcher as from itself.
@@ -69,7 +49,7 @@ case_a_watcher_passes_on_a_list() {
     over_watched ls-remote --symref 'ext::watched history-sha1'
     expect 0 <(git ls-remote --symref ./history-sha1) /dev/null
     went_on
-    expect_line 'the transcript' '> 0 request ls-refs' watched.transcript
+    expect_line 'the transcript' 'request ls-refs' watched.transcript
     over_watched ls-remote 'ext::watched history-sha256' 'refs/tags/*'
     expect 0 <(git ls-remote ./history-sha256 'refs/tags/*') /dev/null
     went_on --format sha256
@@ -91,12 +71,12 @@ case_a_watcher_passes_on_an_empty_repository() {
 
 case_a_watcher_passes_on_20_megabytes() {
     clones_over_the_watcher heavy --mirror
-    tail -n 1 watched.transcript | grep -q -E '^< 21[0-9]{6} end 21[0-9]{6} [0-9]+$' || differs 'another end' watched.transcript
+    tail -n 1 watched.transcript | grep -q -E '^end 21[0-9]{6} [0-9]+$' || differs 'another end' watched.transcript
 }
 
 case_a_watcher_passes_on_a_shallow_clone() {
     clones_over_the_watcher history-sha1 --no-single-branch --depth 1
-    expect_line 'the transcript' "shallow $(git -C history-sha1 rev-parse main)" <(told_by_the_watcher)
+    expect_line 'the transcript' "shallow $(git -C history-sha1 rev-parse main)" watched.transcript
 }
 
 case_a_watcher_passes_on_a_fetch_in_rounds() {
@@ -106,7 +86,7 @@ case_a_watcher_passes_on_a_fetch_in_rounds() {
     over_watched -C ours fetch -q --no-tags 'ext::watched seen.git' '+refs/heads/*:refs/remotes/origin/*'
     same_after_fetch
     went_on
-    expect_line 'the transcript' "ack $(git -C history-sha1 rev-parse main)" <(told_by_the_watcher)
+    expect_line 'the transcript' "ack $(git -C history-sha1 rev-parse main)" watched.transcript
 }
 
 case_a_watcher_passes_on_the_rest_of_a_history() {
@@ -116,7 +96,7 @@ case_a_watcher_passes_on_the_rest_of_a_history() {
     over_watched -C ours fetch -q --unshallow origin
     same_after_fetch
     went_on --format sha256
-    grep -q '^< [0-9]* unshallow ' watched.transcript || differs 'no boundary that went' watched.transcript
+    grep -q '^unshallow ' watched.transcript || differs 'no boundary that went' watched.transcript
 }
 
 case_a_watcher_passes_on_wanted_references() {
@@ -125,7 +105,7 @@ case_a_watcher_passes_on_wanted_references() {
     over_watched -C ours fetch -q --no-tags 'ext::watched history-sha1 -c uploadpack.allowRefInWant=true' alone:refs/heads/alone
     same_after_fetch
     went_on
-    expect_line 'the transcript' "wanted-ref $(git -C history-sha1 rev-parse alone) refs/heads/alone" <(told_by_the_watcher)
+    expect_line 'the transcript' "wanted-ref $(git -C history-sha1 rev-parse alone) refs/heads/alone" watched.transcript
 }
 
 case_a_watcher_passes_on_a_partial_clone() {
@@ -143,8 +123,8 @@ case_a_watcher_passes_on_a_session_id() {
     over_watched -c transfer.advertiseSID=true clone -q 'ext::watched history-sha1 -c transfer.advertiseSID=true' ours
     clone_from_git history-sha1
     same_clones
-    passed_on
-    grep -q '^> [0-9]* capability session-id=' watched.transcript || differs 'no session-id' watched.transcript
+    went_on
+    sed '1,/^request /d' watched.transcript | grep -q '^capability session-id=' || differs 'no session-id' watched.transcript
 }
 
 # An argument that puts each line of the response on a side band.
@@ -155,9 +135,9 @@ case_a_watcher_passes_on_lines_on_bands() {
     GIT_TEST_SIDEBAND_ALL=1 over_watched -C ours fetch -q --no-tags 'ext::watched banded.git -c uploadpack.advertiseSidebandAll=true' \
         '+refs/heads/*:refs/remotes/origin/*'
     same_after_fetch
-    passed_on
-    grep -q '^> [0-9]* argument sideband-all$' watched.transcript || differs 'no such argument' watched.transcript
-    expect_line 'the transcript' "ack $(git -C history-sha1 rev-parse main)" <(told_by_the_watcher)
+    went_on
+    grep -q '^argument sideband-all$' watched.transcript || differs 'no such argument' watched.transcript
+    expect_line 'the transcript' "ack $(git -C history-sha1 rev-parse main)" watched.transcript
 }
 
 # An argument that adds a section to the response, which Git's server sends on bands. Nobody has the pack at its address, so the client
@@ -170,9 +150,9 @@ case_a_watcher_passes_on_addresses_of_packs() {
     GIT_TEST_SIDEBAND_ALL=1 over_watched -c fetch.uriProtocols=https clone -q "ext::watched history-sha1 \
 -c uploadpack.advertiseSidebandAll=true -c uploadpack.blobPackfileUri=$id% $hash% https://127.0.0.1:1/pack" ours
     expect_status 128
-    passed_on
-    grep -q '^> [0-9]* argument packfile-uris https$' watched.transcript || differs 'no such argument' watched.transcript
-    grep -q "^< [0-9]* packfile-uri $hash https://127.0.0.1:1/pack\$" watched.transcript || differs 'no such section' watched.transcript
+    went_on
+    grep -q '^argument packfile-uris https$' watched.transcript || differs 'no such argument' watched.transcript
+    grep -a -q "$hash https://127.0.0.1:1/pack\$" heard || differs 'no such section' heard
 }
 
 # The sizes of objects, which Git's client does not ask for. Two requests come at once, and then the end of the input.
@@ -184,7 +164,7 @@ case_a_watcher_passes_on_sizes() {
     run watch-watched --transcript watched.transcript record history-sha1 < asked
     expect 0 responses /dev/null
     expect_same 'what the server got' asked requests
-    expect_line 'the transcript' "info $id $(git -C history-sha1 cat-file -s "$id")" <(told_by_the_watcher)
+    expect_line 'the transcript' "info $id $(git -C history-sha1 cat-file -s "$id")" watched.transcript
 }
 
 # An error of a server reaches the client.
@@ -222,7 +202,7 @@ case_a_watcher_is_taken_for_upload_pack() {
         --upload-pack "watch-watched --transcript $room/watched.transcript git upload-pack"
     clone_from_git history-sha1
     same_clones
-    expect_line 'the transcript' offered <(told_by_the_watcher)
+    expect_line 'the transcript' offered watched.transcript
 }
 
 # replayed FILE COPY: a server that sends the contents of the file, and copies what it receives.
@@ -245,7 +225,7 @@ is_judged_as_by_check() {
     else
         expect_same "what is reported after $1" wanted_err err
     fi
-    expect_same "the transcript after $1" wanted <(told_by_the_watcher)
+    expect_same "the transcript after $1" wanted watched.transcript
     read -r _ stream fault _ at < err || return 0
     case $stream$fault in
     *:Remote*) ;;
@@ -388,7 +368,7 @@ case_a_watcher_tells_what_is_wrong() {
     run watch-watched record history-sha256
     expect_status 1
     grep -q '^watch: responses: WrongFormat at [0-9]*$' err || differs 'no WrongFormat' err
-    grep -q '^< [0-9]* capability object-format=sha256$' err || differs 'no transcript' err
+    grep -q '^capability object-format=sha256$' err || differs 'no transcript' err
     for words in '' --sha256 '--transcript x' --no-such-word '-x true'; do
         run watch-watched $words
         expect 2 /dev/null <(echo 'usage: watch [--sha256] [--transcript FILE] COMMAND [WORD..]')
