@@ -10,8 +10,8 @@
  *     git clone --upload-pack "watch git upload-pack" "file://$PWD/FOLDER" CLONE
  *
  * The client has its turn until a request is whole, and the server until it has answered: what one sends before its turn waits. For each
- * side there is a buffer of one packet, and one in its reader of packets; beside them the library has what gitwire_checker(3) says. There is
- * no limit on time: if untrusted clients can reach the host, it has to limit each turn.
+ * side there is a buffer of one packet, and one in the library, beside what a checker keeps, gitwire_checker(3). There is no limit on time: if
+ * untrusted clients can reach the host, it has to limit each turn.
  */
 #define _POSIX_C_SOURCE 200809L
 #include <gitwire.h>
@@ -19,6 +19,7 @@
 #include "start_program.h"
 
 #include <errno.h>
+#include <limits.h>
 #include <poll.h>
 #include <stdio.h>
 #include <stdlib.h>
@@ -48,6 +49,7 @@ static uint64_t request_at;             /* where the client's request begins, th
 static bool has_left;                   /* the client asks no more */
 static bool on_band;                    /* the server's last packet was one of a side band */
 static FILE *transcript;
+static uint8_t buffer[GITWIRE_PACKET_SIZE]; /* for the library: a payload that nobody looks at, or the packet of a report */
 
 static int report(const char *what)
 {
@@ -68,26 +70,34 @@ static void take_in(struct stream *stream)
 	}
 }
 
-/* Passes on all that may go on, and drops it here. Returns whether somebody reads it. */
+/* Drops bytes that may go on: they did, or nobody reads them. */
+static void drop(struct stream *stream, size_t count)
+{
+	stream->judged -= count;
+	stream->read -= count;
+	stream->end -= count;
+	memmove(stream->bytes, stream->bytes + count, stream->end);
+}
+
+/* Passes on what may go on, as much as a pipe takes without waiting. Returns whether somebody reads it. */
 static bool pass_on(struct stream *stream)
 {
+	ssize_t count = write(stream->to, stream->bytes, stream->judged < PIPE_BUF ? stream->judged : PIPE_BUF);
+
+	if (count < 0)
+		return errno == EINTR || errno == EAGAIN;
+	drop(stream, (size_t)count);
+	return true;
+}
+
+/* Passes on all that may go on, as long as somebody reads it. */
+static void pass_all_on(struct stream *stream)
+{
 	struct pollfd ready = { .fd = stream->to, .events = POLLOUT };
-	size_t sent = 0;
-	bool is_read = stream->to >= 0;
 
-	while (is_read && sent < stream->judged) {
-		ssize_t count = poll(&ready, 1, -1) < 0 ? -1 : write(stream->to, stream->bytes + sent, stream->judged - sent);
-
-		if (count >= 0)
-			sent += (size_t)count;
-		else
-			is_read = errno == EINTR || errno == EAGAIN;
-	}
-	stream->read -= stream->judged;
-	stream->end -= stream->judged;
-	memmove(stream->bytes, stream->bytes + stream->judged, stream->end);
-	stream->judged = 0;
-	return is_read;
+	while (stream->to >= 0 && stream->judged > 0)
+		if ((poll(&ready, 1, -1) < 0 && errno != EINTR) || !pass_on(stream))
+			return;
 }
 
 static void refuse(const struct stream *stream, gitwire_fault fault, uint64_t offset)
@@ -115,7 +125,7 @@ static void take_lines(void)
 		fwrite(lines, 1, next.length, transcript);
 }
 
-/* Feeds the checker the bytes up to here that are not judged, at their turn. */
+/* Feeds the checker, at this side's turn, what comes after the judged bytes, up to this place. */
 static void feed(const struct stream *stream, size_t end)
 {
 	size_t at = stream->judged;
@@ -143,7 +153,7 @@ static void judge_packet(struct stream *stream, gitwire_answer packet)
 	if (is_refused() && !reports_an_error())
 		return;
 	if (stream == &requests && next.kind == responses.turn) {
-		has_left = packet.offset == request_at; /* a flush packet alone */
+		has_left = packet.offset == request_at; /* by a flush in the place of a request */
 		request_at = packet.offset + length;
 	}
 	if (stream == &responses)
@@ -163,14 +173,13 @@ static bool has_turn(const struct stream *stream)
 /* Judges the packets of a stream that are whole, and its end once they are judged, if it is its turn. */
 static void judge(struct stream *stream)
 {
-	static uint8_t payload[GITWIRE_PAYLOAD_SIZE];
 	gitwire_answer packet;
 
 	if (has_left)
 		feed(stream, stream->end); /* nothing may follow the last response, not even a part of a packet */
 	while (!is_refused() && stream->read < stream->end && (stream->read > stream->judged || has_turn(stream))) {
-		packet = gitwire_packet_reader_feed(stream->packets, stream->bytes + stream->read, stream->end - stream->read, payload,
-			sizeof payload);
+		packet = gitwire_packet_reader_feed(stream->packets, stream->bytes + stream->read, stream->end - stream->read, buffer,
+			sizeof buffer);
 		stream->read += packet.used;
 		if (packet.kind != GITWIRE_MORE)
 			judge_packet(stream, packet);
@@ -190,7 +199,6 @@ static void judge(struct stream *stream)
 /* Reports to the client, where its user sees it, why the conversation ends: inside a pack on a side band, otherwise in an error packet. */
 static void report_to_client(const char *text, size_t length)
 {
-	static uint8_t buffer[GITWIRE_PACKET_SIZE];
 	gitwire_writer *writer;
 	gitwire_answer answer;
 
@@ -212,9 +220,9 @@ static int end_refused(void)
 	size_t length = gitwire_fault_text(next.fault, next.offset, text, sizeof text);
 
 	fprintf(stderr, "watch: %s: %.*s\n", next.kind == requests.refused ? requests.name : responses.name, (int)length, text);
-	pass_on(&responses);
+	pass_all_on(&responses);
 	if (reports_an_error())
-		pass_on(&requests);
+		pass_all_on(&requests);
 	else
 		report_to_client(text, length);
 	return 1;
@@ -226,6 +234,14 @@ static void close_server(void)
 	if (requests.to >= 0)
 		close(requests.to);
 	requests.to = -1;
+	drop(&requests, requests.judged);
+}
+
+/* What to wait for: bytes, if they fit, and somebody who reads those that may go on. */
+static void await(const struct stream *stream, struct pollfd *polled)
+{
+	polled[0] = (struct pollfd){ .fd = stream->end < sizeof stream->bytes ? stream->from : -1, .events = POLLIN };
+	polled[1] = (struct pollfd){ .fd = stream->judged > 0 ? stream->to : -1, .events = POLLOUT };
 }
 
 /* Passes on what both send until the server ends. Returns the exit status. */
@@ -233,32 +249,29 @@ static int watch(void)
 {
 	take_lines();
 	for (;;) {
-		struct pollfd polled[2];
+		struct pollfd polled[4];
 
 		judge(&requests);
 		judge(&responses);
 		fflush(transcript);
 		if (is_refused())
 			return end_refused();
-		if (requests.judged + responses.judged > 0) {
-			if (!pass_on(&requests))
-				close_server();
-			if (!pass_on(&responses))
-				return report("the client is gone");
-			continue; /* what waits of the other side may have its turn now */
-		}
-		if (has_left)
-			close_server();
 		if (responses.from < 0 && responses.end == 0 && next.kind != responses.turn)
 			return 0;
-		polled[0] = (struct pollfd){ .fd = requests.end < sizeof requests.bytes ? requests.from : -1, .events = POLLIN };
-		polled[1] = (struct pollfd){ .fd = responses.end < sizeof responses.bytes ? responses.from : -1, .events = POLLIN };
-		if (poll(polled, 2, -1) < 0 && errno != EINTR)
+		if (requests.to < 0 || (requests.judged == 0 && has_left))
+			close_server();
+		await(&requests, polled);
+		await(&responses, polled + 2);
+		if (poll(polled, 4, -1) < 0 && errno != EINTR)
 			return report(strerror(errno));
 		if (polled[0].revents)
 			take_in(&requests);
-		if (polled[1].revents)
+		if (polled[1].revents && !pass_on(&requests))
+			close_server();
+		if (polled[2].revents)
 			take_in(&responses);
+		if (polled[3].revents && !pass_on(&responses))
+			return report("the client is gone");
 	}
 }
 

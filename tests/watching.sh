@@ -22,16 +22,11 @@ over_watched() {
     run git -c protocol.version=2 -c protocol.ext.allow=always "$@"
 }
 
-# passed_on: that each side received what the other sent, and the watcher reported nothing.
-passed_on() {
+# went_on [OPTION..]: that each side received what the other sent, the watcher reported nothing, and the transcript is that of `check`.
+went_on() {
     expect_same 'what the server got' said requests
     expect_same 'what the client got' responses heard
     expect_same 'what the watcher reported' /dev/null watched.err
-}
-
-# went_on [OPTION..]: that each side received what the other sent, and the transcript is that of `check`.
-went_on() {
-    passed_on
     run git2show check "$@" requests responses
     expect 0 watched.transcript /dev/null
 }
@@ -302,6 +297,21 @@ case_a_watcher_refuses_a_client() {
     refuses_the_client 'NoWants at 22' '0012command=fetch\n00010000' '0012command=fetch\n0001'
     refuses_the_client 'UnknownArgument at 24' '0014command=ls-refs\n0001000bpeel x\n0000' '0014command=ls-refs\n0001'
     refuses_the_client 'Truncated at 20' '0014command=ls-refs\n000' '0014command=ls-refs\n'
+}
+
+# The second request of this client is for a command that the server does not advertise. It is refused where it begins, before its last packet goes on.
+case_a_watcher_refuses_a_request_that_may_not_be_asked() {
+    write_replayed
+    { packet command=ls-refs && printf 0000; } > unasked.first
+    { packet command=fetch && printf 0001 && packet "want $one" && packet done; } > unasked.second
+    { packet 'version 2' && packet ls-refs && printf 0000 && packet "$one refs/heads/main" && printf 0000; } > unasked.responses
+    run watch-watched --transcript watched.transcript replayed unasked.responses unasked.got < <(cat unasked.first unasked.second && printf 0000)
+    expect_status 1
+    expect_same 'what is reported' <(echo 'watch: requests: NotAdvertised at 24') err
+    expect_same 'what the client got' <(cat unasked.responses && packet 'ERR NotAdvertised at 24') out
+    cat unasked.first unasked.second > unasked.most
+    touch unasked.got # the server may be ended before it has received any
+    is_front 'a request that may not be asked' "$(wc -c < unasked.got)" "$(wc -c < unasked.most)" unasked.most unasked.got
 }
 
 # A server behind the watcher that sends the contents of the file `bad`, with its address for Git.

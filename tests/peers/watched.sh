@@ -21,11 +21,6 @@ END
     chmod 755 bin/ssh-watched bin/recorded
 }
 
-# without_other_answers: the lines of a watcher's transcript but for those of answers to `bundle-uri`, which `check` passes over.
-without_other_answers() {
-    awk '/^end / && other { other = 0; next } !other { print } /^request / { other = $2 == "bundle-uri" }'
-}
-
 # watched PEER LINE GIT-WORD..: a command of a Git over the watcher. Prints `same` if all ends well, `check` and the watcher print the same lines,
 # and one is a line like LINE; `not spoken` if it has none; or else what is wrong.
 watched() {
@@ -36,9 +31,7 @@ watched() {
     [ $status = 0 ] || { echo "status $status: $(tail -n 1 watched.out) $(cat watched.err)"; return; }
     [ ! -s watched.err ] || { head -n 1 watched.err; return; }
     limited git2show check requests responses > checked 2> checked.err || { echo "check: $(head -n 1 checked.err)"; return; }
-    # The watcher prints what it does not know as it comes, which is before the line of the request.
-    [ -z "$library" ] || cut -d ' ' -f 3- watched.transcript | without_other_answers | sort | cmp -s - <(sort checked) ||
-        { echo 'another transcript of watch'; return; }
+    [ -z "$library" ] || cmp -s watched.transcript checked || { echo 'another transcript of watch'; return; }
     if grep -q -e "$line" checked; then echo same; else echo 'not spoken'; fi
 }
 
