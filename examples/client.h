@@ -46,8 +46,11 @@
 /* How many packets are made for a client before the others have their turn: a small request can be answered by a flush alone. */
 enum { MOST_PULLS = 64 };
 
+/* What a client is at; NOBODY is in a slot that is free. */
+enum phase { NOBODY, GREETING, SERVING, ENDING, LEAVING, HANDED_OVER };
+
 struct client {
-	enum { NOBODY, GREETING, SERVING, ENDING, LEAVING, HANDED_OVER } phase;
+	enum phase phase;
 	int connection;                           /* -1 once it is handed over */
 	pid_t process;                            /* the process that has it then */
 	time_t deadline;
@@ -88,7 +91,7 @@ static const char *text_of(gitwire_answer answer)
 /* Reports on standard error what happened to a client, unless the write would wait for a reader. */
 static void report(const char *what, const char *why)
 {
-	struct pollfd errors = { .fd = STDERR_FILENO, .events = POLLOUT };
+	struct pollfd errors = { STDERR_FILENO, POLLOUT, 0 };
 
 	if (poll(&errors, 1, 0) == 1 && errors.revents & POLLOUT)
 		fprintf(stderr, "daemon: %s%s\n", what, why);

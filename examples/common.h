@@ -9,7 +9,7 @@ static void stop(const char *what)
 }
 
 /* Reads a whole file, whose bytes are the caller's to free, or ends the program. */
-static void *read_file(const char *name, size_t *length)
+static char *read_file(const char *name, size_t *length)
 {
 	FILE *file = fopen(name, "rb");
 	char *bytes = NULL;
@@ -19,7 +19,7 @@ static void *read_file(const char *name, size_t *length)
 		stop("a file cannot be opened");
 	for (*length = 0; *length == size; *length += fread(bytes + *length, 1, size - *length, file)) {
 		size = 2 * size + 65536;
-		bytes = realloc(bytes, size);
+		bytes = (char *)realloc(bytes, size);
 		if (bytes == NULL)
 			stop("no memory");
 	}

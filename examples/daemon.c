@@ -18,7 +18,9 @@
  *
  * A client above a limit receives an error packet that states the limit and how much it allows: of a request, of time, of clients.
  */
+#ifndef _GNU_SOURCE /* g++ defines it */
 #define _GNU_SOURCE
+#endif
 #define PROGRAM "daemon"
 #include "common.h"
 
@@ -37,7 +39,7 @@ enum { LEAST_SECONDS = 1 };
 
 /* A pack, which the repository is lent. Of no bytes there is nothing to map. */
 struct pack {
-	void *bytes;
+	uint8_t *bytes;
 	size_t length;
 	bool is_mapped;
 };
@@ -113,6 +115,14 @@ static void give_turns(const struct pollfd *polled)
 	}
 }
 
+/* What poll() has to wait for at a descriptor; at -1 for nothing. */
+static struct pollfd polled_for(int descriptor, short events)
+{
+	struct pollfd polled = { descriptor, events, 0 };
+
+	return polled;
+}
+
 /* Serves until SIGINT. The end of a client's time, and a SIGINT that comes between two waits, are noticed within a tick. */
 static void run(int listener)
 {
@@ -123,9 +133,9 @@ static void run(int listener)
 		for (int i = 0; i < MOST_CLIENTS; i++) {
 			struct client *c = &clients[i];
 
-			polled[i] = (struct pollfd){ .fd = c->phase == NOBODY ? -1 : c->connection, .events = awaited(c) };
+			polled[i] = polled_for(c->phase == NOBODY ? -1 : c->connection, awaited(c));
 		}
-		polled[MOST_CLIENTS] = (struct pollfd){ .fd = is_open ? listener : -1, .events = POLLIN };
+		polled[MOST_CLIENTS] = polled_for(is_open ? listener : -1, POLLIN);
 		if (poll(polled, MOST_CLIENTS + 1, TICK) >= 0) {
 			give_turns(polled);
 			is_open = !polled[MOST_CLIENTS].revents || welcome(listener);
@@ -143,7 +153,7 @@ static struct pack open_pack(const char *name)
 	int file;
 
 	if (stat(name, &status) != 0 || !S_ISREG(status.st_mode)) {
-		opened.bytes = read_file(name, &opened.length);
+		opened.bytes = (uint8_t *)read_file(name, &opened.length);
 		return opened;
 	}
 	file = open(name, O_RDONLY | O_CLOEXEC);
@@ -151,7 +161,7 @@ static struct pack open_pack(const char *name)
 		stop("a file cannot be opened");
 	opened.length = (size_t)status.st_size;
 	if (opened.length > 0) {
-		opened.bytes = mmap(NULL, opened.length, PROT_READ, MAP_PRIVATE, file, 0);
+		opened.bytes = (uint8_t *)mmap(NULL, opened.length, PROT_READ, MAP_PRIVATE, file, 0);
 		opened.is_mapped = opened.bytes != MAP_FAILED;
 		if (!opened.is_mapped)
 			stop("a file cannot be mapped");
@@ -201,10 +211,13 @@ static void open_folder(const char *name)
 
 static int listen_at(const char *address, uint16_t port, const char *name)
 {
-	struct sockaddr_in at = { .sin_family = AF_INET, .sin_port = htons(port) };
+	struct sockaddr_in at;
 	int listener = socket(AF_INET, SOCK_STREAM | SOCK_NONBLOCK | SOCK_CLOEXEC, 0), yes = 1;
 	socklen_t size = sizeof at;
 
+	memset(&at, 0, sizeof at);
+	at.sin_family = AF_INET;
+	at.sin_port = htons(port);
 	if (inet_pton(AF_INET, address, &at.sin_addr) != 1 || ntohl(at.sin_addr.s_addr) >> 24 != 127)
 		stop("the address is not of the loopback network");
 	if (listener < 0 || setsockopt(listener, SOL_SOCKET, SO_REUSEADDR, &yes, sizeof yes) != 0

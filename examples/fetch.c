@@ -12,12 +12,15 @@
 
 #include <string.h>
 
+/* What to ask. */
+enum step { LIST, GET, LEAVE };
+
 /* A fetch, from the request for the reference to the last byte of the pack. */
 struct fetch {
 	gitwire_client *client;
 	const char *reference;
 	char id[GITWIRE_OBJECT_NAME_SIZE + 1]; /* the reference's object, once the server has sent it */
-	enum { LIST, GET, LEAVE } next;        /* what to ask */
+	enum step next;
 	FILE *pack;
 };
 
@@ -36,8 +39,9 @@ static bool make_request(const struct fetch *fetch, gitwire_request **request)
 /* Asks the next request, or leaves. Returns the exit status, or -1 to continue. */
 static int ask_next(struct fetch *fetch)
 {
-	gitwire_answer answer = { .kind = GITWIRE_NOTHING };
 	gitwire_request *request;
+	gitwire_answer answer;
+	bool is_made;
 
 	if (fetch->next == LEAVE) {
 		gitwire_client_leave(fetch->client);
@@ -45,10 +49,11 @@ static int ask_next(struct fetch *fetch)
 	}
 	if (fetch->next == GET && fetch->id[0] == '\0')
 		return report("no such reference");
-	if (make_request(fetch, &request))
+	is_made = make_request(fetch, &request);
+	if (is_made)
 		answer = gitwire_client_ask(fetch->client, request);
 	gitwire_request_free(request); /* the client has what it asks */
-	if (answer.kind == GITWIRE_NOTHING)
+	if (!is_made)
 		return report("a reference that cannot be asked for");
 	fetch->next = fetch->next == LIST ? GET : LEAVE;
 	return answer.kind == GITWIRE_DONE ? -1 : refuse(fetch->client, answer);
@@ -141,7 +146,7 @@ static int fetch_into(struct fetch *fetch, char *folder, const char *name)
 
 int main(int count, char **words)
 {
-	struct fetch fetch = { .next = LIST };
+	struct fetch fetch = { NULL, NULL, "", LIST, NULL };
 	int status;
 
 	if (count != 4) {

@@ -7,6 +7,7 @@
 #include <stdint.h>
 #include <stdio.h>
 #include <stdlib.h>
+#include <string.h>
 #include <sys/prctl.h>
 #include <sys/wait.h>
 #include <unistd.h>
@@ -26,7 +27,7 @@ struct command {
 };
 
 /* Ends the program, and the session if there is one, because a command of Git failed. */
-static _Noreturn void fail(const char *what);
+__attribute__((noreturn)) static void fail(const char *what);
 
 /* Starts the command of these words; the last of them is NULL. It ends when this program does, however that ends. */
 static void start(struct command *command, enum reports reports, const char *const *words)
@@ -36,7 +37,9 @@ static void start(struct command *command, enum reports reports, const char *con
 
 	if (pipe2(input, O_CLOEXEC) != 0 || pipe2(output, O_CLOEXEC) != 0 || (reports == TO_PIPE && pipe2(messages, O_CLOEXEC) != 0))
 		fail("no pipe can be made");
-	*command = (struct command){ .id = fork(), .messages = messages[0] };
+	memset(command, 0, sizeof *command);
+	command->messages = messages[0];
+	command->id = fork();
 	if (command->id == 0) {
 		if (reports == TO_OUTPUT)
 			setenv("LC_ALL", "C", 1);
@@ -56,7 +59,7 @@ static void start(struct command *command, enum reports reports, const char *con
 		close(messages[1]);
 	command->input = fdopen(input[1], "w");
 	command->output = fdopen(output[0], "r");
-	command->buffer = malloc(READ_SIZE);
+	command->buffer = (char *)malloc(READ_SIZE);
 	if (command->id < 0 || command->input == NULL || command->output == NULL || command->buffer == NULL)
 		fail("a command of Git cannot be started");
 	setvbuf(command->output, command->buffer, _IOFBF, READ_SIZE);
@@ -100,7 +103,7 @@ static bool widen(int pipe, int bytes)
 
 static ssize_t read_patiently(void *pipe, char *bytes, size_t size)
 {
-	struct pollfd output = { .fd = (int)(intptr_t)pipe };
+	struct pollfd output = { (int)(intptr_t)pipe, 0, 0 };
 
 	poll(&output, 1, 1); /* a millisecond, or until its end: data is no event here */
 	return read(output.fd, bytes, size);
@@ -117,7 +120,7 @@ static int close_patiently(void *pipe)
  */
 static void be_patient(struct command *command)
 {
-	cookie_io_functions_t calls = { .read = read_patiently, .close = close_patiently };
+	cookie_io_functions_t calls = { read_patiently, NULL, NULL, close_patiently };
 	int pipe = fcntl(fileno(command->output), F_DUPFD_CLOEXEC, 3);
 
 	if (pipe < 0 || !widen(pipe, 1 << 20)) {

@@ -24,7 +24,7 @@ static void start_walk(struct command *walk, const struct names *from, const str
 /* Adds the commits among these objects, and those that the tags among them point to. */
 static void add_commits(const struct names *of, struct names *commits)
 {
-	struct names tags = { 0 };
+	struct names tags = no_names;
 
 	find_all(of, "", "commit", commits);
 	find_all(of, "", "tag", &tags);
@@ -35,7 +35,7 @@ static void add_commits(const struct names *of, struct names *commits)
 /* Whether a commit or a parent of it is known. */
 static bool reaches(const struct names *known, const char *commit)
 {
-	struct names alone = { 0 }, parents = { 0 };
+	struct names alone = no_names, parents = no_names;
 	bool is_so = has_name(known, commit);
 
 	add_name(&alone, commit);
@@ -54,7 +54,7 @@ static bool reaches(const struct names *known, const char *commit)
  */
 static bool is_enough_common(void)
 {
-	struct names known = { 0 }, parents = { 0 }, wanted = { 0 }, none = { 0 };
+	struct names known = no_names, parents = no_names, wanted = no_names;
 	struct command walk;
 	uint64_t oldest;
 	bool is_enough;
@@ -66,7 +66,7 @@ static bool is_enough_common(void)
 	for (size_t i = 0; i < parents.length; i++)
 		add_name(&known, parents.at[i].digits);
 	add_commits(&wants, &wanted);
-	start_walk(&walk, &wanted, &none, oldest);
+	start_walk(&walk, &wanted, &no_names, oldest);
 	for (char *line; (line = next_line(&walk)) != NULL;) {
 		char *commit = strsep(&line, " ");
 		bool leads_there = false;
@@ -99,10 +99,10 @@ static void note_boundary(const struct names *within, const struct names *last)
 /* Cuts the history of the commits in `within` off at this depth, and at the commits in `ends` and the ends of the repository itself. */
 static void cut_at_depth(struct names *within, uint64_t depth, const struct names *ends)
 {
-	struct names last = { 0 }, inner;
+	struct names last = no_names, inner;
 
 	for (size_t at = 0; at < within->length; depth--) {
-		inner = (struct names){ 0 };
+		inner = no_names;
 		for (; at < within->length; at++)
 			if (depth <= 1 || has_name(&own_boundary, within->at[at].digits) || has_name(ends, within->at[at].digits))
 				add_name(&last, within->at[at].digits);
@@ -122,7 +122,7 @@ static void find_reachable(struct names *commits)
 	static const char *const shown[] = { "git", "rev-list", "--exclude-hidden=uploadpack", "--not", "--all", "--not", "--stdin", NULL };
 	bool hidden = is_set("uploadpack.allowtipsha1inwant", false) || is_set("uploadpack.allowreachablesha1inwant", false)
 		|| is_set("uploadpack.allowanysha1inwant", false);
-	struct names others = { 0 };
+	struct names others = no_names;
 	struct command walk;
 
 	start(&walk, TO_ERRORS, hidden ? all : shown);
@@ -142,7 +142,7 @@ static void find_reachable(struct names *commits)
 /* Cuts off the commits that are older than a time (0 for none), and those that the excluded commits lead to. */
 static void cut_by_walk(uint64_t since, const struct names *excluded)
 {
-	struct names within = { 0 }, last = { 0 };
+	struct names within = no_names, last = no_names;
 	struct command walk;
 
 	start_walk(&walk, &wants, excluded, since);

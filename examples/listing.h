@@ -116,7 +116,7 @@ static bool is_reference(const char *line)
 static void answer_matching(const struct texts *patterns)
 {
 	const char *words[5 + 2 * PATTERNS + 1] = { "git", "for-each-ref", "--sort=refname", "--format=%(objectname) %(refname) %(symref)", "--" };
-	struct texts lines = { 0 };
+	struct texts lines = no_texts;
 	struct command listed;
 
 	if (patterns->length == 0)
@@ -329,10 +329,10 @@ static void note_prefix(struct asked *asked, const char *prefix)
 /* Reports the references that a request asks for, and perhaps others, which the library leaves out. */
 static void answer_references(void)
 {
-	struct asked asked = { .all = item(GITWIRE_LIST_REF_PREFIXES, 0) == NULL };
+	bool all = item(GITWIRE_LIST_REF_PREFIXES, 0) == NULL; /* without a prefix, `HEAD` too */
+	struct asked asked = { all, all, false, false, false, false, no_texts };
 	const char *prefix;
 
-	asked.head = asked.all;
 	for (size_t i = 0; (prefix = item(GITWIRE_LIST_REF_PREFIXES, i)) != NULL; i++)
 		note_prefix(&asked, prefix);
 	if (asked.all && *space != 0) {

@@ -25,6 +25,9 @@ struct names {
 	size_t capacity; /* of the table, a power of two */
 };
 
+/* The empty set, with each field named: C++ has no `(struct names){ 0 }`. */
+static const struct names no_names = { NULL, 0, NULL, 0 };
+
 static uint64_t mixed(uint64_t hash, uint64_t part)
 {
 	__extension__ unsigned __int128 product = (unsigned __int128)(hash ^ part) * 0x9e3779b97f4a7c15u;
@@ -70,16 +73,16 @@ static void clear_names(struct names *names)
 {
 	free(names->at);
 	free(names->places);
-	*names = (struct names){ 0 };
+	*names = no_names;
 }
 
 /* Doubles the table, so that at least half of it is free. */
 static void enlarge(struct names *names)
 {
 	size_t capacity = names->capacity == 0 ? 64 : 2 * names->capacity;
-	struct place *places = calloc(capacity, sizeof *places);
+	struct place *places = (struct place *)calloc(capacity, sizeof *places);
 
-	names->at = realloc(names->at, capacity / 2 * sizeof *names->at);
+	names->at = (struct name *)realloc(names->at, capacity / 2 * sizeof *names->at);
 	if (names->at == NULL || places == NULL || capacity > UINT32_MAX)
 		stop("no memory");
 	for (size_t i = 0, at; i < names->capacity; i++) {
@@ -108,8 +111,10 @@ static void add_name(struct names *names, const char *digits)
 	memcpy(name, digits, length);
 	name[length] = 0;
 	place = find_place(names, name, hash);
-	if (place->number == 0)
-		*place = (struct place){ .number = (uint32_t)++names->length, .hash = hash };
+	if (place->number == 0) {
+		place->number = (uint32_t)++names->length;
+		place->hash = hash;
+	}
 }
 
 /* Writes each on a line of its own, after this text. */

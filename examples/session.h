@@ -67,17 +67,18 @@ static void give_following(void)
 }
 
 /* The answer to a question cannot be found: the session is over. The client receives that at any question, and before a request is accepted. */
-static _Noreturn void fail(const char *what)
+__attribute__((noreturn)) static void fail(const char *what)
 {
 	static const char reason[] = "the repository cannot be read";
-	gitwire_answer answer = { .kind = GITWIRE_NOTHING };
+	gitwire_answer answer;
 
-	if (host != NULL) /* or else the session has not begun */
+	if (host != NULL) { /* or else the session has not begun */
 		answer = gitwire_host_fail(host, buffer(), GITWIRE_PACKET_SIZE);
-	if (answer.kind == GITWIRE_NOT_NOW)
-		answer = gitwire_host_refuse(host, reason, sizeof reason - 1, buffer(), GITWIRE_PACKET_SIZE);
-	if (answer.kind == GITWIRE_PACKET)
-		give(answer);
+		if (answer.kind == GITWIRE_NOT_NOW)
+			answer = gitwire_host_refuse(host, reason, sizeof reason - 1, buffer(), GITWIRE_PACKET_SIZE);
+		if (answer.kind == GITWIRE_PACKET)
+			give(answer);
+	}
 	fprintf(stderr, PROGRAM ": %s\n", what);
 	flush_output();
 	exit(1);

@@ -2,7 +2,7 @@
 #include <stdio.h>
 #include <stdlib.h>
 
-static _Noreturn void stop(const char *what)
+__attribute__((noreturn)) static void stop(const char *what)
 {
 	fprintf(stderr, PROGRAM ": %s\n", what);
 	exit(1);

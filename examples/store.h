@@ -208,7 +208,7 @@ static int compare_texts(const void *one, const void *other)
 
 static int compare_to_line(const void *name, const void *line)
 {
-	return strcmp(name, strchr(*(char *const *)line, ' ') + 1);
+	return strcmp((const char *)name, strchr(*(char *const *)line, ' ') + 1);
 }
 
 /* Adds a line `ID NAME` for each of these whole names that is a reference. The names are in order. */
@@ -237,8 +237,10 @@ static void find_references(struct texts *names, struct texts *lines)
 /* The object of the reference with exactly this name in such lines; false if there is none. */
 static bool find_reference(const struct texts *lines, const char *name, char *id)
 {
-	char *const *line = lines->length == 0 ? NULL : bsearch(name, lines->at, lines->length, sizeof *lines->at, compare_to_line);
+	char *const *line = NULL;
 
+	if (lines->length > 0)
+		line = (char *const *)bsearch(name, lines->at, lines->length, sizeof *lines->at, compare_to_line);
 	if (line != NULL)
 		snprintf(id, GITWIRE_OBJECT_NAME_SIZE + 1, "%.*s", (int)strcspn(*line, " "), *line);
 	return line != NULL;
@@ -251,7 +253,7 @@ static bool find_reference(const struct texts *lines, const char *name, char *id
 static bool find_head(const char *name, const char *target, struct found *found)
 {
 	const char *whole = *target != 0 ? target : name;
-	struct texts names = { 0 }, lines = { 0 };
+	struct texts names = no_texts, lines = no_texts;
 	bool may_be_unborn = is_pattern(whole), is_there;
 
 	if (may_be_unborn) {

@@ -9,6 +9,9 @@ struct texts {
 	size_t length, capacity;
 };
 
+/* The empty list, with each field named: C++ has no `(struct texts){ 0 }`. */
+static const struct texts no_texts = { NULL, 0, 0 };
+
 /* Adds a text of this format, as printf has it. */
 __attribute__((format(printf, 2, 3))) static void add_text(struct texts *texts, const char *format, ...)
 {
@@ -16,7 +19,7 @@ __attribute__((format(printf, 2, 3))) static void add_text(struct texts *texts, 
 
 	if (texts->length == texts->capacity) {
 		texts->capacity = 2 * texts->capacity + 16;
-		texts->at = realloc(texts->at, texts->capacity * sizeof *texts->at);
+		texts->at = (char **)realloc(texts->at, texts->capacity * sizeof *texts->at);
 		if (texts->at == NULL)
 			stop("no memory");
 	}
@@ -31,5 +34,5 @@ static void clear_texts(struct texts *texts)
 	for (size_t i = 0; i < texts->length; i++)
 		free(texts->at[i]);
 	free(texts->at);
-	*texts = (struct texts){ 0 };
+	*texts = no_texts;
 }

@@ -11,7 +11,9 @@
  *     git clone --upload-pack=.../upload-pack "file://$PWD/REPOSITORY" CLONE
  */
 #define PROGRAM "upload-pack"
+#ifndef _GNU_SOURCE /* g++ defines it */
 #define _GNU_SOURCE
+#endif
 #include <gitwire.h>
 
 #include "stop.h"
@@ -56,9 +58,9 @@ static bool find_wanted(const char *name, char *id)
 /* Looks up the wanted references. Returns the first that does not exist, or NULL. */
 static const char *find_wanted_references(void)
 {
-	struct texts names = { 0 };
+	struct texts names = no_texts;
 	char id[GITWIRE_OBJECT_NAME_SIZE + 1];
-	struct found found = { .id = "" };
+	struct found found = { "", "", 0 };
 	bool wants_head = false;
 	const char *name;
 
@@ -87,7 +89,7 @@ enum { RULES = 6, MOST_EXCLUDED = 100 };
  */
 static const char *find_excluded(struct names *excluded)
 {
-	struct texts names = { 0 }, lines = { 0 };
+	struct texts names = no_texts, lines = no_texts;
 	static char whole[LINE_SIZE];
 	char id[GITWIRE_OBJECT_NAME_SIZE + 1];
 	struct found found;
@@ -161,18 +163,18 @@ static void find_boundary(void)
 {
 	gitwire_answer depth = gitwire_host_number(host, GITWIRE_NUMBER_DEEPEN), since = gitwire_host_number(host, GITWIRE_NUMBER_DEEPEN_SINCE);
 	bool excludes = item(GITWIRE_LIST_DEEPEN_NOTS, 0) != NULL, relative = gitwire_host_flag(host, GITWIRE_FLAG_DEEPEN_RELATIVE);
-	struct names heads = { 0 }, none = { 0 };
+	struct names heads = no_names;
 
 	if (since.kind == GITWIRE_DONE || excludes) {
 		cut_by_walk(since.kind == GITWIRE_DONE ? since.offset : 0, &excluded);
 	} else if (depth.kind == GITWIRE_DONE && depth.offset == INT_MAX && own_boundary.length == 0) {
-		note_boundary(&client_boundary, &none);
+		note_boundary(&client_boundary, &no_names);
 	} else if (depth.kind == GITWIRE_DONE) {
 		if (relative)
 			find_reachable(&heads);
 		else
 			add_commits(&wants, &heads);
-		cut_at_depth(&heads, depth.offset + relative, &none);
+		cut_at_depth(&heads, depth.offset + relative, &no_names);
 	} else if (own_boundary.length > 0) {
 		add_commits(&wants, &heads);
 		cut_at_depth(&heads, INT_MAX, &client_boundary);
@@ -196,7 +198,7 @@ static void answer_boundary(void)
 /* What `git pack-objects` has to put into the pack, and where history is cut off for the client. */
 static void write_revisions(FILE *to, bool is_cut)
 {
-	struct names parents = { 0 };
+	struct names parents = no_names;
 
 	read_commits(&unshallows, &parents);
 	if (is_cut) {
@@ -248,7 +250,7 @@ static void start_pack(struct command *pack, bool is_cut)
 static void show_messages(const uint8_t *bytes, size_t length)
 {
 	while (length > 0) {
-		const uint8_t *end = memchr(bytes, '\n', length);
+		const uint8_t *end = (const uint8_t *)memchr(bytes, '\n', length);
 		size_t shown = end == NULL ? length : (size_t)(end - bytes), used = shown + (end != NULL);
 
 		fputs(PROGRAM ": ", stderr);
@@ -314,7 +316,7 @@ static void answer_pack(void)
 
 static void answer_size(uint64_t at)
 {
-	struct found found = { .size = 0 };
+	struct found found = { "", "", 0 };
 	bool is_there = find(item(GITWIRE_LIST_OIDS, at), &found);
 
 	give(gitwire_host_size(host, is_there, found.size, buffer(), GITWIRE_PACKET_SIZE));

@@ -56,7 +56,8 @@ static gitwire_fault add(gitwire_request *request, const char *word, const char 
 /* Starts the server as a process of its own. */
 static bool start_server(char *folder)
 {
-	char *words[] = { "git", "upload-pack", "--", folder, NULL };
+	char git[] = "git", command[] = "upload-pack", end[] = "--"; /* execvp() takes no constant words */
+	char *words[] = { git, command, end, folder, NULL };
 
 	setenv("GIT_PROTOCOL", "version=2", 1);
 	return start_program(words, &to_server, &from_server) >= 0;

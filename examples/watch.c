@@ -38,10 +38,10 @@ struct stream {
 };
 
 static struct stream requests = {
-	"requests", GITWIRE_STREAM_REQUESTS, GITWIRE_NEED_REQUESTS, GITWIRE_FAILED_REQUESTS, .from = STDIN_FILENO,
+	"requests", GITWIRE_STREAM_REQUESTS, GITWIRE_NEED_REQUESTS, GITWIRE_FAILED_REQUESTS, STDIN_FILENO, -1, NULL, 0, 0, 0, { 0 },
 };
 static struct stream responses = {
-	"responses", GITWIRE_STREAM_RESPONSES, GITWIRE_NEED_RESPONSES, GITWIRE_FAILED_RESPONSES, .to = STDOUT_FILENO,
+	"responses", GITWIRE_STREAM_RESPONSES, GITWIRE_NEED_RESPONSES, GITWIRE_FAILED_RESPONSES, -1, STDOUT_FILENO, NULL, 0, 0, 0, { 0 },
 };
 static gitwire_checker *checker;
 static gitwire_answer next;             /* what the checker needs, or the verdict */
@@ -93,7 +93,7 @@ static bool pass_on(struct stream *stream)
 /* Passes on all that may go on, as long as somebody reads it. */
 static void pass_all_on(struct stream *stream)
 {
-	struct pollfd ready = { .fd = stream->to, .events = POLLOUT };
+	struct pollfd ready = { stream->to, POLLOUT, 0 };
 
 	while (stream->to >= 0 && stream->judged > 0)
 		if ((poll(&ready, 1, -1) < 0 && errno != EINTR) || !pass_on(stream))
@@ -102,7 +102,9 @@ static void pass_all_on(struct stream *stream)
 
 static void refuse(const struct stream *stream, gitwire_fault fault, uint64_t offset)
 {
-	next = (gitwire_answer){ .kind = stream->refused, .fault = fault, .offset = offset };
+	next.kind = stream->refused;
+	next.fault = fault;
+	next.offset = offset;
 }
 
 static bool is_refused(void)
@@ -240,8 +242,11 @@ static void close_server(void)
 /* What to wait for: bytes, if they fit, and somebody who reads those that may go on. */
 static void await(const struct stream *stream, struct pollfd *polled)
 {
-	polled[0] = (struct pollfd){ .fd = stream->end < sizeof stream->bytes ? stream->from : -1, .events = POLLIN };
-	polled[1] = (struct pollfd){ .fd = stream->judged > 0 ? stream->to : -1, .events = POLLOUT };
+	struct pollfd input = { stream->end < sizeof stream->bytes ? stream->from : -1, POLLIN, 0 };
+	struct pollfd output = { stream->judged > 0 ? stream->to : -1, POLLOUT, 0 };
+
+	polled[0] = input;
+	polled[1] = output;
 }
 
 /* Passes on what both send until the server ends. Returns the exit status. */

@@ -285,6 +285,22 @@ case_library_programs_compile_without_a_word() {
     done
 }
 
+# The programs are C11 and C++17 alike: their parts can be copied into a program in either language.
+case_examples_compile_as_c_and_as_cpp() {
+    local compiler options source
+    for compiler in gcc clang g++ clang++; do
+        command -v $compiler > /dev/null || continue
+        case $compiler in
+        *++) options=(-x c++ -std=c++17) ;;
+        *) options=(-x c -std=c11) ;;
+        esac
+        for source in "$top"/examples/*.c; do
+            run $compiler "${options[@]}" -Wall -Wextra -Wconversion -Wpedantic -Werror -fsyntax-only -I"$installed/include" "$source"
+            expect 0 /dev/null /dev/null
+        done
+    done
+}
+
 # The options in a command's help are in the manual page, in the part on that command.
 case_manual_page_has_each_option() {
     local command option
