@@ -1,3 +1,5 @@
 pub mod OneStream
+pub mod TwoStreams
+pub mod Unread
 pub mod Numbers
 pub mod RunLemmas

@@ -1,5 +1,5 @@
 -- A run over one reader and one writer.
-use Rattle.std.proofs.Common.{arith, ◌≡◌, inl, inr, ℕ, zero, suc, ◌+◌, ◌-◌, ◌≤◌, ◌^◌, min, Bool, true, false, Option, Some, None}
+use Rattle.std.proofs.Common.{arith, ◌≡◌, inl, inr, ℕ, ◌+◌, ◌-◌, ◌≤◌, ◌^◌, min, Bool, true, false, Option, Some, None}
 use Rattle.std.proofs.Common.{Result, Ok, Err, IfErr, IsTrue}
 use Rattle.std.proofs.Common.{List, [], ◌∷◌, ◌++◌, length, take, drop, take-append-drop, append_assoc, refl, sym, ap, ◌∙◌, subst}
 use Rattle.std.proofs.lemmas.List.{drop-drop, drop-take, length-take}
@@ -11,7 +11,7 @@ use Rattle.git_pkt.specs.declared.fault.RunFault.TheVariants.{ReadFault, WriteFa
 use Rattle.git_pkt.specs.declared.recorded.Recorded.{Recorded}
 use Rattle.git_loop.specs.Moves.{ended_after, given_to, used_of}
 use Rattle.git_loop.specs.Streams.{Consumed, EndsAtItsEnd, InputState, one_input, one_output, recorded_input, window_of}
-use Rattle.git_loop.specs.Machines.{AreReadToTheEnd, EndStates, EndsRun, IsWaiting, RanOne, RanOver, RunStates, States, WaitsFor}
+use Rattle.git_loop.specs.Machines.{AreReadToTheEnd, EndStates, EndsRun, IsWaiting, RanOne, RanOver, RunStates, States, Uses, WaitsFor}
 
 -- ---- the window
 
@@ -31,23 +31,31 @@ window_later start end count memory within =
     let parts : end - start ≡ count + later = omega (arith, fits) in
     sym (ap (λ (n : ℕ). drop count (take n rest)) parts ∙ drop-take count later rest ∙ ap (take later) (drop-drop count start memory))
 
-pub consumes_first : {R : Type 0} (remaining : R → Option (List ℕ)) (reader : Recorded R) (n count start end : ℕ) (memory : List ℕ) → n ≡ 0
-    → count ≤ length (one_input (recorded_input remaining reader (window_of start end memory)) n).window
-    → Consumed count (one_input (recorded_input remaining reader (window_of start end memory)) n)
-    (one_input (recorded_input remaining reader (window_of (start + count) end memory)) n)
-consumes_first remaining reader zero count start end memory first within =
-    let later = window_later start end count memory within in
-    record {
-      left = subst (λ (l : List ℕ). Consumes (prepend_known (window_of start end memory) (remaining (inner_of reader)))
-          (prepend_known l (remaining (inner_of reader))) (take count (window_of start end memory))) (sym later)
-          (window_used (remaining (inner_of reader)) (window_of start end memory) count);
-      window = later;
-      reads = refl;
-      failed = refl;
-      ended = refl;
-      wasted = refl;
-    }
-consumes_first remaining reader (suc k) count start end memory first within = absurd (cc)
+module _ {R : Type 0} (remaining : R → Option (List ℕ)) (reader : Recorded R) (count start end : ℕ) (memory : List ℕ) where
+  abbrev pub input_from : ℕ → InputState
+  input_from from = recorded_input remaining reader (window_of from end memory)
+
+  consumes : count ≤ length (input_from start).window → Consumed count (input_from start) (input_from (start + count))
+  consumes within =
+      let later = window_later start end count memory within in
+      record {
+        left = subst (λ (l : List ℕ). Consumes (prepend_known (window_of start end memory) (remaining (inner_of reader)))
+            (prepend_known l (remaining (inner_of reader))) (take count (window_of start end memory))) (sym later)
+            (window_used (remaining (inner_of reader)) (window_of start end memory) count);
+        window = later;
+        reads = refl;
+        failed = refl;
+        ended = refl;
+        wasted = refl;
+      }
+
+  -- so many bytes of the window of an input were used, and its reader was not read
+  pub consumes_window : {old new : InputState} → old ≡ input_from start → new ≡ input_from (start + count) → count ≤ length old.window
+      → Consumed count old new
+  consumes_window {old} {new} was is within =
+      subst (λ (i : InputState). Consumed count i new) (sym was)
+      (subst (λ (i : InputState). Consumed count (input_from start) i) (sym is)
+      (consumes (subst (λ (i : InputState). count ≤ length i.window) was within)))
 
 -- what left the stream, and what waits of it, was read
 read_all : (before after : Option (List ℕ)) (window bytes : List ℕ) → Consumes (prepend_known [] before) (prepend_known window after) bytes
@@ -56,7 +64,14 @@ read_all None after window bytes used = tt
 read_all (Some left) None window bytes used = absurd used
 read_all (Some left) (Some later) window bytes used = used ∙ sym (append_assoc bytes window later)
 
--- ---- what is sent
+-- what a run used of a reader without waiting bytes, and what waits after it, was read
+pub was_read : {R : Type 0} (remaining : R → Option (List ℕ)) (reader reader_after : Recorded R) (window window_after bytes : List ℕ) → window ≡ []
+    → Uses (recorded_input remaining reader window) (recorded_input remaining reader_after window_after) bytes
+    → Consumes (remaining (inner_of reader)) (remaining (inner_of reader_after)) (bytes ++ window_after)
+was_read remaining reader reader_after window window_after bytes empty uses =
+    read_all (remaining (inner_of reader)) (remaining (inner_of reader_after)) window_after bytes
+    (subst (λ (l : List ℕ). Consumes (prepend_known l (remaining (inner_of reader))) (prepend_known window_after (remaining (inner_of reader_after)))
+    bytes) empty uses.left)
 
 -- ---- the end
 
@@ -149,12 +164,7 @@ module _ {M R W : Type 0} (states : States M) (at_end : EndStates) (one : (k : �
     ran_one result ran = record {
       used = (used_of 0 ran.went.trace ++ w) ∷ [];
       given = given_to 0 ran.went.trace ∷ [];
-      read = (
-        read_all (remaining (inner_of reader)) (remaining (inner_of reader_after)) w (used_of 0 ran.went.trace)
-            (subst (λ (l : List ℕ). Consumes (prepend_known l (remaining (inner_of reader))) (prepend_known w (remaining (inner_of reader_after)))
-            (used_of 0 ran.went.trace)) empty (ran.went.used 0).left),
-        tt,
-      );
+      read = (was_read remaining reader reader_after v w (used_of 0 ran.went.trace) empty (ran.went.used 0), tt);
       written = (ran.went.written 0, tt);
       related = record {
         trace = ran.went.trace;

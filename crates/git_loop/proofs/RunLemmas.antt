@@ -13,7 +13,7 @@ use Rattle.git_pkt.specs.declared.fault.RunFault.{RunFault}
 use Rattle.git_pkt.proofs.EngineLemmas.{written_nothing, written_then, written_flushed, written_whole, at_fault}
 use Rattle.git_loop.specs.Moves.{Move, closed, gave, used, ended_after, given_to, ended_after-append, given_to-append, used_of-append}
 use Rattle.git_loop.specs.Streams.{Consumed, EndsAtItsEnd, Fills, InputState, IsOpen, KeepsOthers, Sends, found_end}
-use Rattle.git_loop.specs.Machines.{AreSound, EndStates, EndsFlushed, FailedAlone, GivesPart, IsAt, IsNeeded, KeepsEmptyOnes, KnowsEnds, LeadBy}
+use Rattle.git_loop.specs.Machines.{AreSound, EndStates, EndsFlushed, FailedAlone, GivesPart, IsAt, IsNeeded, IsUnread, KeepsEmptyOnes, KnowsEnds, LeadBy}
 use Rattle.git_loop.specs.Machines.{Moment, RanOver, Reading, ReadsAsNeeded, ReadsNone, ReadsOnce, SameCalls, States, Uses, Views, Went, WentOn}
 use Rattle.git_loop.proofs.Numbers.{at_number, over_number}
 
@@ -43,7 +43,7 @@ or-false : (b : Bool) → (b || false) ≡ b
 or-false true = refl
 or-false false = refl
 
-or-true : (b : Bool) → (b || true) ≡ true
+pub or-true : (b : Bool) → (b || true) ≡ true
 or-true true = refl
 or-true false = refl
 
@@ -148,14 +148,23 @@ empty_consumed from {first} {mid} {now} so_far some others k empty =
 
 -- a read of the input of this number was made, and no other one
 pub once_read : {first mid now : ℕ → InputState} (from : ℕ) → (mid from).reads ≤ (first from).reads + 1 → KeepsOthers from first mid
-    → ((k : ℕ) → SameCalls (mid k) (now k)) → ReadsOnce from first now
-once_read from once others calls = record {
+    → ((k : ℕ) → SameCalls (mid k) (now k)) → KeepsEmptyOnes mid now → ReadsOnce from first now
+once_read {first} {mid} {now} from once others calls kept = record {
   once = omega (arith, once, (calls from).reads);
-  others = λ k other. (calls k).reads ∙ ap (λ (i : InputState). i.reads) (others k other);
+  others = λ k other. subst (λ (i : InputState). IsUnread i (now k)) (others k other) (record { reads = (calls k).reads; empty = kept k });
 }
 
-pub same_reads : {first now : ℕ → InputState} → ((k : ℕ) → SameCalls (first k) (now k)) → ReadsNone first now
-same_reads calls k = (calls k).reads
+pub same_reads : {first now : ℕ → InputState} → ((k : ℕ) → SameCalls (first k) (now k)) → KeepsEmptyOnes first now → ReadsNone first now
+same_reads calls kept k = record { reads = (calls k).reads; empty = kept k }
+
+pub reads_none : (inputs : ℕ → InputState) → ReadsNone inputs inputs
+reads_none inputs k = record { reads = refl; empty = λ e. refl }
+
+unread_then : {a b c : InputState} → IsUnread a b → IsUnread b c → IsUnread a c
+unread_then first second = record {
+  reads = second.reads ∙ first.reads;
+  empty = λ e. second.empty (ap (λ (i : InputState). i.window) (first.empty e) ∙ e) ∙ first.empty e;
+}
 
 pub same_calls : (input : InputState) → SameCalls input input
 same_calls input = record { reads = refl; failed = refl; ended = refl }
@@ -263,12 +272,12 @@ module _ {M : Type 0} (states : States M) where
       lead_on : (first before now : Moment M I O) (readings : List (Reading M I O)) → LeadBy states views false first readings before
           → WentOn states views broken before now → ReadsNone (views.input before.inputs) (views.input now.inputs)
           → LeadBy states views broken first readings now
-      lead_on first before now [] (went, none) more quiet = (went_then broken went more, λ k. quiet k ∙ none k)
+      lead_on first before now [] (went, none) more quiet = (went_then broken went more, λ k. unread_then (none k) (quiet k))
       lead_on first before now (reading ∷ earlier) (lead, needed, went, read) more quiet = (
         lead,
         needed,
         went_then broken went more,
-        record { once = omega (arith, quiet reading.from, read.once); others = λ k other. quiet k ∙ read.others k other },
+        record { once = omega (arith, (quiet reading.from).reads, read.once); others = λ k other. unread_then (read.others k other) (quiet k) },
       )
 
       -- a run went on without a read

@@ -100,13 +100,18 @@ pub record Reading (M I O : Type 0) : Type 0 where
   pub at : Moment M I O
   pub from : ℕ
 
+-- no read was made of an input, and nothing happened to it if no bytes of it waited
+pub record IsUnread (old new : InputState) : Type 0 where
+  pub reads : new.reads ≡ old.reads
+  pub empty : old.window ≡ [] → new ≡ old
+
 -- at most one read was made, of the input of this number
 pub record ReadsOnce (from : ℕ) (old new : ℕ → InputState) : Type 0 where
   pub once : (new from).reads ≤ (old from).reads + 1
-  pub others : (k : ℕ) → k ≢ from → (new k).reads ≡ (old k).reads
+  pub others : (k : ℕ) → k ≢ from → IsUnread (old k) (new k)
 
 abbrev pub ReadsNone : (ℕ → InputState) → (ℕ → InputState) → Type 0
-ReadsNone old new = (k : ℕ) → (new k).reads ≡ (old k).reads
+ReadsNone old new = (k : ℕ) → IsUnread (old k) (new k)
 
 module _ {M I O : Type 0} (states : States M) (views : Views I O) where
   abbrev pub WentOn : Bool → Moment M I O → Moment M I O → Type 0

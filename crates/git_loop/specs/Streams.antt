@@ -1,6 +1,6 @@
 -- Inputs and outputs of a run, by their numbers: how each call changes them.
-use Rattle.std.specs.Prelude.{◌≡◌, ◌≢◌, ◌||◌, ℕ, zero, suc, ◌+◌, ◌-◌, ◌≤◌, ◌<◌, Bool, true, false, List, [], length, take, drop, Option}
-use Rattle.std.specs.Prelude.{None, Result, Ok, Err, is_err}
+use Rattle.std.specs.Prelude.{◌≡◌, ◌≢◌, ◌||◌, ℕ, zero, suc, ◌+◌, ◌-◌, ◌^◌, ◌≤◌, ◌<◌, min, Bool, true, false, List, [], length, take, drop}
+use Rattle.std.specs.Prelude.{Option, None, Result, Ok, Err, is_err}
 use Rattle.std.specs.Io.KnownBytes.{Consumes, IsAtEnd, Keeps, prepend_known}
 use Rattle.git_pkt.specs.Streams.{flow, WrittenAs}
 use Rattle.git_pkt.specs.declared.fault.RunFault.{RunFault}
@@ -47,6 +47,11 @@ pub record Fills (result : Result Bool RunFault) (old new : InputState) : Type 0
   pub ended : new.ended ≡ (old.ended || found_end result)
   pub wasted : new.wasted ≡ (old.wasted || old.ended)
 
+-- one more read was counted, of all inputs: each counter stops at `u64::MAX`
+pub record CountsOne (old new : ℕ) : Type 0 where
+  pub most : new ≤ old + 1
+  pub least : min (old + 1) (2 ^ 64 - 1) ≤ new
+
 -- so many bytes of the window were used
 pub record Consumed (count : ℕ) (old new : InputState) : Type 0 where
   pub left : Consumes old.left new.left (take count old.window)
@@ -65,7 +70,7 @@ pub record Sends (broken : Bool) (to : ℕ) (bytes : List ℕ) (before after : �
   pub written : WrittenAs broken (flow (before to) (after to)) bytes
   pub others : KeepsOthers to before after
 
--- ---- one reader or writer alone, of the number 0
+-- ---- one reader or writer alone, of the number 0, and two readers, of the numbers 0 and 1
 
 -- what lies in memory between two indices
 abbrev pub window_of : ℕ → ℕ → List ℕ → List ℕ
@@ -82,9 +87,18 @@ recorded_input remaining reader window = record {
   wasted = has_wasted reader;
 }
 
+-- what is at a number that no input has
+abbrev pub no_input : InputState
+no_input = record { left = None; window = []; reads = 0; failed = false; ended = false; wasted = false }
+
 abbrev pub one_input : InputState → ℕ → InputState
 one_input input zero = input
-one_input input (suc k) = record { left = None; window = []; reads = 0; failed = false; ended = false; wasted = false }
+one_input input (suc k) = no_input
+
+abbrev pub two_inputs : InputState → InputState → ℕ → InputState
+two_inputs first second zero = first
+two_inputs first second (suc zero) = second
+two_inputs first second (suc (suc k)) = no_input
 
 abbrev pub one_output : Option (List ℕ) → ℕ → Option (List ℕ)
 one_output contents zero = contents

@@ -5,7 +5,7 @@ ghost use Rattle.std.specs.Prelude.{IfErr, OnErr, OnOk, is_err, Err};
 ghost use Rattle.git_pkt.specs.Machine.Recorded.{inner_of, reads_of, has_ended, has_failed, has_wasted, IsNew};
 ghost use Rattle.git_pkt.specs.Machine.Engine.{FailsAs, IsShownBy, IsSpent};
 ghost use Rattle.git_pkt.specs.Streams.{is_broken};
-ghost use Rattle.git_loop.specs.Streams.{EndsAtItsEnd, InputState, IsOpen, KeepsOthers};
+ghost use Rattle.git_loop.specs.Streams.{CountsOne, EndsAtItsEnd, InputState, IsOpen, KeepsOthers};
 ghost use Rattle.git_loop.specs.Machines.{AreReadToTheEnd, EndsFlushed, HasNothing, IsAt, KeepsEmptyOnes, KnowsEnds, RanOne, RanOver, ReadsAsNeeded};
 ghost use Rattle.git_loop.specs.Machines.{SameCalls, WaitsFor, Went, states_of};
 ghost use Rattle.git_loop.specs.OneStreams.{HaveSameReader, HaveSameWriter, reader_of, waiting_in, writer_of};
@@ -61,7 +61,7 @@ fn read_more<M: Machine, I: Inputs>(
     ensures failed { (I.input inputs.new from).failed ≡ ((I.input inputs.old from).failed || is_err result) }
     ensures others { KeepsOthers from (I.input inputs.old) (I.input inputs.new) }
     ensures once { (I.input inputs.new from).reads ≤ (I.input inputs.old from).reads + 1 }
-    ensures counted { I.reads inputs.new ≡ min (I.reads inputs.old + 1) u64.MAX }
+    ensures counted { CountsOne (I.reads inputs.old) (I.reads inputs.new) }
     ensures fault { IfErr result (λ fault. fault ≡ RunFault.ReadFault) }
     ensures same_readers { I.same_readers inputs.old inputs.new }
 {

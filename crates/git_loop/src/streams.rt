@@ -1,11 +1,11 @@
 //! The inputs and the outputs of a run, each with its number, from 0.
 
-ghost use Rattle.std.specs.Prelude.{◌≡◌, ◌≢◌, ◌≤◌, ◌<◌, ◌+◌, ◌-◌, min, ◌||◌, ℕ, Bool, true, false, List, [], length, take, drop, Option};
+ghost use Rattle.std.specs.Prelude.{◌≡◌, ◌≢◌, ◌≤◌, ◌<◌, ◌+◌, ◌-◌, ◌||◌, ℕ, Bool, true, false, List, [], length, take, drop, Option};
 ghost use Rattle.std.specs.Prelude.{None, OnErr, OnOk, IfErr, is_err};
 ghost use Rattle.std.proofs.Common.{refl, ◌∙◌};
 ghost use Rattle.std.specs.Io.KnownBytes.{Keeps};
 ghost use Rattle.git_pkt.specs.Machine.Recorded.{inner_of, reads_of, has_failed};
-ghost use Rattle.git_loop.specs.Streams.{Consumed, Fills, InputState, KeepsOthers, Sends, one_input, one_output, recorded_input};
+ghost use Rattle.git_loop.specs.Streams.{Consumed, CountsOne, Fills, InputState, KeepsOthers, Sends, one_input, one_output, recorded_input};
 
 use git_pkt::{Recorded, RunFault, flush, receive, send};
 use std::io::{Read, Write};
@@ -35,7 +35,7 @@ pub trait Inputs {
         requires empty { (input self.old from).window ≡ [] }
         ensures fills { Fills result (input self.old from) (input self.new from) }
         ensures others { KeepsOthers from (input self.old) (input self.new) }
-        ensures counted { reads self.new ≡ min (reads self.old + 1) u64.MAX }
+        ensures counted { CountsOne (reads self.old) (reads self.new) }
         ensures fault { IfErr result (λ fault. fault ≡ RunFault.ReadFault) }
         ensures same_readers { same_readers self.old self.new };
 
@@ -98,8 +98,8 @@ pub struct OneInput<'a, R> {
     pub(crate) reader: &'a mut Recorded<R>,
     pub(crate) buffer: &'a mut [u8],
     // The window lies between these indices.
-    start: usize,
-    end: usize,
+    pub(crate) start: usize,
+    pub(crate) end: usize,
     ghost space: { 0 < length buffer.now },
     ghost ordered: { start ≤ end },
     ghost within: { end ≤ length buffer.now },

@@ -1,7 +1,7 @@
 use Rattle.std.proofs.Common.{rules, true, false, refl, ℕ, []}
 use Rattle.git_pkt.specs.declared.fault.RunFault.TheVariants.{ReadFault, WriteFault}
 use Rattle.git_loop.proofs.RunLemmas.{failed_alone, flushed_at, known_first, known_read, known_so, once_read, ran_at, reads_at, reads_no_more, reads_once_more}
-use Rattle.git_loop.proofs.RunLemmas.{same_calls, same_reads, sound_read, sound_so, spent_first, spent_read, spent_so, went_flushed}
+use Rattle.git_loop.proofs.RunLemmas.{reads_none, same_calls, same_reads, sound_read, sound_so, spent_first, spent_read, spent_so, went_flushed}
 use Rattle.git_loop.proofs.RunLemmas.{went_then}
 use Rattle.git_loop.proofs.running.run_streams.Goals as goal
 
@@ -28,7 +28,7 @@ loop-init g c = record {
   same_readers = c.in_ok-next.ensures.same_readers;
   same_writers = c.in_ok-next.ensures.same_writers;
   went = c.in_ok-next.ensures.ok;
-  needed = record { readings = []; lead = (c.in_ok-next.ensures.ok, same_reads c.in_ok-next.ensures.calls) };
+  needed = record { readings = []; lead = (c.in_ok-next.ensures.ok, same_reads c.in_ok-next.ensures.calls c.in_ok-next.ensures.empty_kept) };
 }
 
 -- ---- a turn
@@ -100,14 +100,15 @@ loop-preserved g c =
           (c.in_ok-read_more.ensures.went _)) c.in_ok-next-2.ensures.ok;
       needed = reads_once_more _ g.met.M.Machine.reaches_further g.met.M.Machine.stays_reachable _ false c.in-Some.from
           (reads_no_more _ g.met.M.Machine.reaches_further g.met.M.Machine.stays_reachable _ false c.loop.invariant.needed
-          (went_flushed _ false g.met.M.Machine.reaches_itself _ _ c.in_ok-flush.ensures.kept) (λ k. refl))
+          (went_flushed _ false g.met.M.Machine.reaches_itself _ _ c.in_ok-flush.ensures.kept) (reads_none _))
           (record {
             needs = rw c.in-Some.is at c.loop.invariant.at;
             empty = rw c.in-Some.is at c.loop.invariant.nothing;
             flushed = c.in_ok-flush.ensures.flushed;
           })
           (went_then _ g.met.M.Machine.reaches_further g.met.M.Machine.stays_reachable false (c.in_ok-read_more.ensures.went _) c.in_ok-next-2.ensures.ok)
-          (once_read c.in-Some.from c.in_ok-read_more.ensures.once c.in_ok-read_more.ensures.others c.in_ok-next-2.ensures.calls);
+          (once_read c.in-Some.from c.in_ok-read_more.ensures.once c.in_ok-read_more.ensures.others c.in_ok-next-2.ensures.calls
+          c.in_ok-next-2.ensures.empty_kept);
     }
 
 pub returns-in_err-flush-2-clause-ran : goal.returns-in_err-flush-2-clause-ran
@@ -125,61 +126,62 @@ pub returns-in_err-next-clause-needed : goal.returns-in_err-next-clause-needed
 returns-in_err-next-clause-needed g c =
     reads_at WriteFault _ c.in_err-next.ensures.fault c.from_residual.ensures.1 (record {
       readings = [];
-      lead = (c.in_err-next.ensures.front, same_reads c.in_err-next.ensures.calls);
+      lead = (c.in_err-next.ensures.front, same_reads c.in_err-next.ensures.calls c.in_err-next.ensures.empty_kept);
     })
 
 pub returns-in_err-flush-clause-needed : goal.returns-in_err-flush-clause-needed
 returns-in_err-flush-clause-needed g c =
     reads_at WriteFault _ c.in_err-flush.ensures.fault c.from_residual-in_err-flush.ensures.1
     (reads_no_more _ g.met.M.Machine.reaches_further g.met.M.Machine.stays_reachable _ true c.loop.invariant.needed
-    (went_flushed _ true g.met.M.Machine.reaches_itself _ _ c.in_err-flush.ensures.kept) (λ k. refl))
+    (went_flushed _ true g.met.M.Machine.reaches_itself _ _ c.in_err-flush.ensures.kept) (reads_none _))
 
 pub returns-in_err-flush-2-clause-needed : goal.returns-in_err-flush-2-clause-needed
 returns-in_err-flush-2-clause-needed g c =
     reads_at WriteFault _ c.in_err-flush-2.ensures.fault c.from_residual-in_err-flush-2.ensures.1
     (reads_no_more _ g.met.M.Machine.reaches_further g.met.M.Machine.stays_reachable _ true c.loop.invariant.needed
-    (went_flushed _ true g.met.M.Machine.reaches_itself _ _ c.in_err-flush-2.ensures.kept) (λ k. refl))
+    (went_flushed _ true g.met.M.Machine.reaches_itself _ _ c.in_err-flush-2.ensures.kept) (reads_none _))
 
 pub returns-in_err-read_more-clause-needed : goal.returns-in_err-read_more-clause-needed
 returns-in_err-read_more-clause-needed g c =
     reads_at ReadFault _ c.in_err-read_more.ensures.fault c.from_residual-in_err-read_more.ensures.1
     (reads_once_more _ g.met.M.Machine.reaches_further g.met.M.Machine.stays_reachable _ false c.in-Some.from
     (reads_no_more _ g.met.M.Machine.reaches_further g.met.M.Machine.stays_reachable _ false c.loop.invariant.needed
-    (went_flushed _ false g.met.M.Machine.reaches_itself _ _ c.in_ok-flush.ensures.kept) (λ k. refl)) (record {
+    (went_flushed _ false g.met.M.Machine.reaches_itself _ _ c.in_ok-flush.ensures.kept) (reads_none _)) (record {
       needs = rw c.in-Some.is at c.loop.invariant.at;
       empty = rw c.in-Some.is at c.loop.invariant.nothing;
       flushed = c.in_ok-flush.ensures.flushed;
     })
     (c.in_err-read_more.ensures.went _)
-    (once_read c.in-Some.from c.in_err-read_more.ensures.once c.in_err-read_more.ensures.others (λ k. same_calls _)))
+    (once_read c.in-Some.from c.in_err-read_more.ensures.once c.in_err-read_more.ensures.others (λ k. same_calls _) (λ k empty. refl)))
 
 pub returns-in_err-next-2-clause-needed : goal.returns-in_err-next-2-clause-needed
 returns-in_err-next-2-clause-needed g c =
     reads_at WriteFault _ c.in_err-next-2.ensures.fault c.from_residual-in_err-next-2.ensures.1
     (reads_once_more _ g.met.M.Machine.reaches_further g.met.M.Machine.stays_reachable _ true c.in-Some.from
     (reads_no_more _ g.met.M.Machine.reaches_further g.met.M.Machine.stays_reachable _ false c.loop.invariant.needed
-    (went_flushed _ false g.met.M.Machine.reaches_itself _ _ c.in_ok-flush.ensures.kept) (λ k. refl)) (record {
+    (went_flushed _ false g.met.M.Machine.reaches_itself _ _ c.in_ok-flush.ensures.kept) (reads_none _)) (record {
       needs = rw c.in-Some.is at c.loop.invariant.at;
       empty = rw c.in-Some.is at c.loop.invariant.nothing;
       flushed = c.in_ok-flush.ensures.flushed;
     })
     (went_then _ g.met.M.Machine.reaches_further g.met.M.Machine.stays_reachable true (c.in_ok-read_more.ensures.went _) c.in_err-next-2.ensures.front)
-    (once_read c.in-Some.from c.in_ok-read_more.ensures.once c.in_ok-read_more.ensures.others c.in_err-next-2.ensures.calls))
+    (once_read c.in-Some.from c.in_ok-read_more.ensures.once c.in_ok-read_more.ensures.others c.in_err-next-2.ensures.calls
+    c.in_err-next-2.ensures.empty_kept))
 
 pub returns-in_default-clause-needed : goal.returns-in_default-clause-needed
 returns-in_default-clause-needed g c =
     reads_no_more _ g.met.M.Machine.reaches_further g.met.M.Machine.stays_reachable _ false c.loop.invariant.needed
-    (went_flushed _ false g.met.M.Machine.reaches_itself _ _ c.in_ok-flush.ensures.kept) (λ k. refl)
+    (went_flushed _ false g.met.M.Machine.reaches_itself _ _ c.in_ok-flush.ensures.kept) (reads_none _)
 
 pub returns-in-Some-next-clause-needed : goal.returns-in-Some-next-clause-needed
 returns-in-Some-next-clause-needed g c =
     reads_no_more _ g.met.M.Machine.reaches_further g.met.M.Machine.stays_reachable _ false c.loop.invariant.needed
-    (went_flushed _ false g.met.M.Machine.reaches_itself _ _ c.in_ok-flush-2.ensures.kept) (λ k. refl)
+    (went_flushed _ false g.met.M.Machine.reaches_itself _ _ c.in_ok-flush-2.ensures.kept) (reads_none _)
 
 pub returns-in-None-clause-needed : goal.returns-in-None-clause-needed
 returns-in-None-clause-needed g c =
     reads_no_more _ g.met.M.Machine.reaches_further g.met.M.Machine.stays_reachable _ false c.loop.invariant.needed
-    (went_flushed _ false g.met.M.Machine.reaches_itself _ _ c.in_ok-flush-2.ensures.kept) (λ k. refl)
+    (went_flushed _ false g.met.M.Machine.reaches_itself _ _ c.in_ok-flush-2.ensures.kept) (reads_none _)
 
 -- ---- which inputs have ended
 
