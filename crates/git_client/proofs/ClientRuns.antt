@@ -1,11 +1,11 @@
 -- A run of a client over its streams so far, and what is true of it at each of its ends.
-use Rattle.std.proofs.Common.{◌≡◌, inl, inr, ℕ, Bool, true, false, List, [], ◌∷◌, ◌++◌, Option, None}
+use Rattle.std.proofs.Common.{◌≡◌, inl, inr, ℕ, Bool, true, false, List, [], ◌∷◌, ◌++◌, Option, Some, None}
 use Rattle.std.proofs.Common.{◌||◌, IsTrue, Result, Ok, Err, is_err, IfErr, IsErrAnd, refl, sym, ap, ◌∙◌, subst, append_assoc, append-nil}
 use Rattle.std.proofs.Math.Bool.{or-false}
 use Rattle.std.proofs.lemmas.Bool.{or_from, or_left}
 use Rattle.std.proofs.lemmas.Result.{err_from_is_err_and}
 use Rattle.std.proofs.KnownBytes.{Appends-kept, Consumes-nil, Consumes-trans}
-use Rattle.std.specs.Io.KnownBytes.{Consumes, Keeps}
+use Rattle.std.specs.Io.KnownBytes.{Consumes, Keeps, prepend_known}
 use Rattle.git_pkt.specs.Machine.Engine.{FailsAs, IsShownBy}
 use Rattle.git_pkt.specs.declared.fault.Fault.{Fault}
 use Rattle.git_pkt.specs.declared.fault.RunFault.{RunFault}
@@ -22,15 +22,14 @@ use Rattle.git_client.specs.Transcript.{transcript_from, transcript_of}
 use Rattle.git_client.specs.Machine.Client.{History, Converses, Leaves, nothing_yet, ask_checks, caps_of, ending_of, can_ask, fault_of, wants_input}
 use Rattle.git_client.specs.Machine.Client.{left_to_send, phase_of, request_of}
 use Rattle.git_pkt.specs.Streams.{Flow, flow, WrittenAs, Moves, is_broken}
-use Rattle.git_client.specs.Machine.RunSteps.{ReceivesFrom, ReceivesResponse, ReceivesWholeResponse, SendsPackets, AsksNext, AsksNot, AsksTo}
-use Rattle.git_client.specs.Machine.RunSteps.{FaultsInTime, no_counts, window_of}
+use Rattle.git_client.specs.Machine.Messages.{ReceivesFirst, ReceivesMessage, ReceivesWholeMessage}
+use Rattle.git_client.specs.Machine.RunSteps.{FaultsInTime, ReceivesBytes, ReceivesFrom, SendsPackets, AsksNext, AsksNot, AsksTo, no_counts}
 use Rattle.git_client.specs.Machine.Runs.{leaves_last, HasSent, IsBrokenRun, IsInterrupted, IsRefusedRequest, IsWholeRun, EndsAs, Conversed}
 use Rattle.git_client.specs.Machine.Running.{IsAnnounced, AskedInTurn, Running}
 use Rattle.git_client.specs.declared.client.Client.{Client}
 use Rattle.git_client.specs.declared.events.Ending.{Ending}
 use Rattle.git_client.specs.declared.events.Ending.TheVariants.{FlushOnly, ResponseEnd}
 use Rattle.git_client.specs.declared.receiving.Counts.{Counts}
-use Rattle.git_client.specs.declared.receiving.Window.{Window}
 use Rattle.git_client.proofs.Alongs.{in_time_where_sound, in_time_where_announced}
 use Rattle.git_client.proofs.Alongs.{along_anew, along_asked, along_begun, along_received, counts_on}
 use Rattle.git_client.proofs.Counting.{progress_bytes-append}
@@ -48,6 +47,16 @@ pub read_on : (before held after : Option (List ℕ)) (used waiting came more un
 read_on before held after used waiting came more unused first second parts =
     subst (Consumes before after) (append_assoc used waiting came ∙ ap (λ (l : List ℕ). used ++ l) parts ∙ sym (append_assoc used more unused))
     (Consumes-trans before held after (used ++ waiting) came first second)
+
+-- the first of the bytes that waited, and of those that were left to read, were used
+read_first : (before held after : Option (List ℕ)) (used waiting more unused : List ℕ) → Consumes before held (used ++ waiting)
+    → Consumes (prepend_known waiting held) (prepend_known unused after) more → Consumes before after ((used ++ more) ++ unused)
+read_first None held after used waiting more unused first second = tt
+read_first (Some all) None after used waiting more unused first second = absurd first
+read_first (Some all) (Some rest) None used waiting more unused first second = absurd second
+read_first (Some all) (Some rest) (Some left) used waiting more unused first second =
+    first ∙ append_assoc used waiting rest ∙ ap (λ (l : List ℕ). used ++ l) second ∙ sym (append_assoc used more (unused ++ left))
+    ∙ sym (append_assoc (used ++ more) unused left)
 
 -- if nothing more is asked or received, the lines so far are the whole transcript
 all_lines : (ready : Bool) (h : History) (lines : List ℕ) (counts : Counts) → IsAnnounced ready h lines counts
@@ -184,6 +193,33 @@ module _ {A : Type 0} where
         }
 
     -- bytes were received, or a write failed meanwhile
+    received_more : (broken : Bool) {h : History} (front : List (Request A)) (old new : Client A) (waiting used unused : List ℕ) (counts : Counts)
+        {writer : Flow} {left_before left left_after out_before out_held out_after pack_before pack_held pack_after : Option (List ℕ)}
+        {progress_before progress_held progress_after : Option (List ℕ)}
+        → Running false t h front old no_counts waiting (flow left_before left) writer (flow out_before out_held) (flow pack_before pack_held)
+        (flow progress_before progress_held) → wants_input old ≡ true → Consumes left_before left_after ((h.used ++ used) ++ unused)
+        → (arrived : ReceivesBytes broken old new no_counts counts used (flow out_held out_after) (flow pack_held pack_after)
+        (flow progress_held progress_after))
+        → Running broken t (record h { used = h.used ++ used; events = h.events ++ arrived.events }) front new counts unused
+        (flow left_before left_after) writer (flow out_before out_after) (flow pack_before pack_after) (flow progress_before progress_after)
+    received_more broken {h} front old new waiting used unused counts {writer} {out_before = o0} {out_held = o1} {out_after = o2} {pack_before = p0}
+        {pack_held = p1} {pack_after = p2} {progress_before = q0} {progress_held = q1} {progress_after = q2} r waits read arrived =
+        let lines = transcript_from [] 0 0 arrived.events in
+        record {
+          lines = r.lines ++ lines;
+          packed = r.packed ++ pack_bytes arrived.events;
+          along = along_received r.along waits arrived;
+          stays = r.stays;
+          in_turn = received_in_turn t h.asked h.used used h.events arrived.events front r.in_turn;
+          read = read;
+          content = written_whole broken writer h.given r.content;
+          announced = written_then broken o0 o1 o2 r.lines lines r.announced (arrived.announced (counts_on r.along arrived.arrives));
+          sent = written_then broken p0 p1 p2 r.packed (pack_bytes arrived.events) r.sent arrived.sent;
+          reported = subst (WrittenAs broken (flow q0 q2)) (sym (progress_bytes-append h.events arrived.events))
+              (written_then broken q0 q1 q2 (progress_bytes h.events) (progress_bytes arrived.events) r.reported arrived.reported);
+        }
+
+    -- they are some of the waiting and the newly read bytes
     pub receives_on : (broken : Bool) {h : History} (front : List (Request A)) (old new : Client A) (waiting unused : List ℕ)
         {writer : Flow} {left_before left left_after out_before out_held out_after pack_before pack_held pack_after : Option (List ℕ)}
         {progress_before progress_held progress_after : Option (List ℕ)}
@@ -193,24 +229,30 @@ module _ {A : Type 0} where
         (flow progress_held progress_after))
         → Running broken t (record h { used = h.used ++ step.used; events = h.events ++ step.bytes.events }) front new step.counts unused
         (flow left_before left_after) writer (flow out_before out_after) (flow pack_before pack_after) (flow progress_before progress_after)
-    receives_on broken {h} front old new waiting unused {writer} {left_before = r0} {left = r1} {left_after = r2} {out_before = o0} {out_held = o1}
-        {out_after = o2} {pack_before = p0} {pack_held = p1} {pack_after = p2} {progress_before = q0} {progress_held = q1} {progress_after = q2} r waits
-        step =
-        let arrived = step.bytes in
-        let lines = transcript_from [] 0 0 arrived.events in
-        record {
-          lines = r.lines ++ lines;
-          packed = r.packed ++ pack_bytes arrived.events;
-          along = along_received r.along waits arrived;
-          stays = r.stays;
-          in_turn = received_in_turn t h.asked h.used step.used h.events arrived.events front r.in_turn;
-          read = read_on r0 r1 r2 h.used waiting step.came step.used unused r.read step.read step.parts;
-          content = written_whole broken writer h.given r.content;
-          announced = written_then broken o0 o1 o2 r.lines lines r.announced (arrived.announced (counts_on r.along arrived.arrives));
-          sent = written_then broken p0 p1 p2 r.packed (pack_bytes arrived.events) r.sent arrived.sent;
-          reported = subst (WrittenAs broken (flow q0 q2)) (sym (progress_bytes-append h.events arrived.events))
-              (written_then broken q0 q1 q2 (progress_bytes h.events) (progress_bytes arrived.events) r.reported arrived.reported);
-        }
+    receives_on broken {h} front old new waiting unused {left_before = r0} {left = r1} {left_after = r2} r waits step =
+        received_more broken front old new waiting step.used unused step.counts r waits
+        (read_on r0 r1 r2 h.used waiting step.came step.used unused r.read step.read step.parts) step.bytes
+
+    -- they are the first of those that waited and of those that were left to read
+    pub receives_first : (broken : Bool) {h : History} (front : List (Request A)) (old new : Client A) (waiting unused : List ℕ)
+        {writer : Flow} {left_before left left_after out_before out_held out_after pack_before pack_held pack_after : Option (List ℕ)}
+        {progress_before progress_held progress_after : Option (List ℕ)}
+        → Running false t h front old no_counts waiting (flow left_before left) writer (flow out_before out_held) (flow pack_before pack_held)
+        (flow progress_before progress_held) → wants_input old ≡ true
+        → (step : ReceivesFirst broken old new waiting unused (flow left left_after) (flow out_held out_after) (flow pack_held pack_after)
+        (flow progress_held progress_after))
+        → Running broken t (record h { used = h.used ++ step.used; events = h.events ++ step.bytes.events }) front new step.counts unused
+        (flow left_before left_after) writer (flow out_before out_after) (flow pack_before pack_after) (flow progress_before progress_after)
+    receives_first broken {h} front old new waiting unused {left_before = r0} {left = r1} {left_after = r2} r waits step =
+        received_more broken front old new waiting step.used unused step.counts r waits
+        (read_first r0 r1 r2 h.used waiting step.used unused r.read step.read) step.bytes
+
+    -- an input in which no bytes wait
+    pub over_empty : {h : History} {front : List (Request A)} {client : Client A} {counts : Counts} {unused : List ℕ} {reader writer out pack progress : Flow}
+        → unused ≡ [] → Running false t h front client counts [] reader writer out pack progress
+        → Running false t h front client counts unused reader writer out pack progress
+    over_empty {h} {front} {client} {counts} {reader = reader} {writer} {out} {pack} {progress} none r =
+        subst (λ (l : List ℕ). Running false t h front client counts l reader writer out pack progress) (sym none) r
 
     -- a client that can ask counts the next response from zero
     pub anew : {h : History} {front : List (Request A)} {client : Client A} {counts : Counts} {unused : List ℕ} {reader writer out pack progress : Flow}
@@ -229,19 +271,18 @@ module _ {A : Type 0} where
       reported = r.reported;
     }
 
-    -- a response was received whole
-    pub receives_whole : {h : History} (front : List (Request A)) (old new : Client A) (waiting : List ℕ) (window : Window) (chunk : List ℕ)
+    -- a message was received whole
+    pub receives_whole : {h : History} (front : List (Request A)) (old new : Client A) (waiting unused : List ℕ)
         {writer : Flow} {left_before left left_after out_before out_held out_after pack_before pack_held pack_after : Option (List ℕ)}
         {progress_before progress_held progress_after : Option (List ℕ)}
         → Running false t h front old no_counts waiting (flow left_before left) writer (flow out_before out_held) (flow pack_before pack_held)
         (flow progress_before progress_held) → wants_input old ≡ true
-        → (step : ReceivesWholeResponse window old new waiting chunk (flow left left_after) (flow out_held out_after) (flow pack_held pack_after)
+        → (step : ReceivesWholeMessage old new waiting unused (flow left left_after) (flow out_held out_after) (flow pack_held pack_after)
         (flow progress_held progress_after))
         → Running false t (record h { used = h.used ++ step.arrives.used; events = h.events ++ step.arrives.bytes.events }) front new no_counts
-        (window_of window chunk) (flow left_before left_after) writer (flow out_before out_after) (flow pack_before pack_after)
-        (flow progress_before progress_after)
-    receives_whole front old new waiting window chunk r waits step =
-        anew step.can_ask_on (receives_on false front old new waiting (window_of window chunk) r waits step.arrives)
+        unused (flow left_before left_after) writer (flow out_before out_after) (flow pack_before pack_after) (flow progress_before progress_after)
+    receives_whole front old new waiting unused r waits step =
+        anew step.can_ask_on (receives_first false front old new waiting unused r waits step.arrives)
 
     -- the client left, or a write failed meanwhile
     pub leaves_on : (broken : Bool) {h : History} (front : List (Request A)) (old mid new : Client A) (counts : Counts) (unused : List ℕ)
@@ -295,11 +336,12 @@ module _ {A : Type 0} (t : Terms) where
   stayed h client stands quiet = stands.left ∙ not_left (phase_of client) quiet
 
   -- a run that ends while the server's bytes are expected was interrupted
-  pub interrupted : (h : History) (client : Client A) → Converses t h client → wants_input client ≡ true → IsInterrupted t [] h
-  interrupted h client stands expected =
+  interrupted : (h : History) (client : Client A) (unused : List ℕ) → Converses t h client → unused ≡ [] → wants_input client ≡ true
+      → IsInterrupted t unused h
+  interrupted h client unused stands all expected =
       let quiet = quiet_where_expected (phase_of client) expected in
       record {
-        all = refl;
+        all = all;
         goes_on = awaits_more t h client stands expected;
         stays = stayed h client stands quiet;
         content = quietly_stated h client stands quiet;
@@ -331,8 +373,8 @@ module _ {A : Type 0} (t : Terms) where
       (subst (WrittenAs false (flow o0 o2)) (append-nil announced) (written_then false o0 o1 o2 announced [] at.announced step.announced)) at.sent at.reported
 
   -- a client that waits for bytes has no error
-  expected_in_time : (ended : Bool) (client : Client A) → wants_input client ≡ true → FaultsInTime client ended []
-  expected_in_time ended client expected = in_time_where_sound client ended [] (sound_where_expected (phase_of client) expected)
+  expected_in_time : (ended : Bool) (client : Client A) (unused : List ℕ) → wants_input client ≡ true → FaultsInTime client ended unused
+  expected_in_time ended client unused expected = in_time_where_sound client ended unused (sound_where_expected (phase_of client) expected)
 
   module _ (requests : List (Request A)) where
     -- how a run with this result moved its streams
@@ -395,33 +437,35 @@ module _ {A : Type 0} (t : Terms) where
       breaks_unflushed {h} ended client counts unused sound r =
           moves (Err WriteFault) ended h client unused (ran_in_part t (ran r)) (not_gone h r.stays) (in_time_where_sound client ended unused sound)
 
-      -- a response was not received to its end
-      pub receiving_ended : {h : History} (fault : RunFault) (ended : Bool) (old new : Client A) (waiting chunk : List ℕ) {writer : Flow}
+      -- a message was not received to its end
+      pub receiving_ended : {h : History} (fault : RunFault) (ended : Bool) (old new : Client A) (waiting unused : List ℕ) {writer : Flow}
           {left_before left left_after out_before out_held out_after pack_before pack_held pack_after : Option (List ℕ)}
           {progress_before progress_held progress_after : Option (List ℕ)}
           → Running false t h front old no_counts waiting (flow left_before left) writer (flow out_before out_held) (flow pack_before pack_held)
           (flow progress_before progress_held)
           → wants_input old ≡ true
-          → ReceivesResponse (Err fault) ended old new waiting chunk (flow left left_after) (flow out_held out_after) (flow pack_held pack_after)
+          → ReceivesMessage (Err fault) ended old new waiting unused (flow left left_after) (flow out_held out_after) (flow pack_held pack_after)
           (flow progress_held progress_after)
           → RunEnds (Err fault) ended new (flow left_before left_after) writer (flow out_before out_after) (flow pack_before pack_after)
           (flow progress_before progress_after)
-      receiving_ended ReadFault ended old new waiting chunk r waits step =
-          let on = receives_on t false front old new waiting [] r waits step.arrives in
-          moves (Err ReadFault) ended _ new [] (ran on) (interrupted _ new on.along.stands step.expected) (expected_in_time ended new step.expected)
-      receiving_ended WriteFault ended old new waiting chunk r waits step =
-          breaks_off ended new step.arrives.counts step.unused step.timely (receives_on t true front old new waiting step.unused r waits step.arrives)
-      receiving_ended ReadLimit ended old new waiting chunk r waits step =
-          let on = receives_on t false front old new waiting [] r waits step.arrives in
-          moves (Err ReadLimit) ended _ new [] (ran on) (interrupted _ new on.along.stands step.expected) (expected_in_time ended new step.expected)
-      receiving_ended (Refused fault) ended old new waiting chunk r waits step =
-          let on = receives_on t false front old new waiting step.unused r waits step.arrives in
+      receiving_ended ReadFault ended old new waiting unused r waits step =
+          let on = receives_first t false front old new waiting unused r waits step.arrives in
+          moves (Err ReadFault) ended _ new unused (ran on) (interrupted _ new unused on.along.stands step.all step.expected)
+          (expected_in_time ended new unused step.expected)
+      receiving_ended WriteFault ended old new waiting unused r waits step =
+          breaks_off ended new step.arrives.counts unused step.timely (receives_first t true front old new waiting unused r waits step.arrives)
+      receiving_ended ReadLimit ended old new waiting unused r waits step =
+          let on = receives_first t false front old new waiting unused r waits step.arrives in
+          moves (Err ReadLimit) ended _ new unused (ran on) (interrupted _ new unused on.along.stands step.all step.expected)
+          (expected_in_time ended new unused step.expected)
+      receiving_ended (Refused fault) ended old new waiting unused r waits step =
+          let on = receives_first t false front old new waiting unused r waits step.arrives in
           let quiet = quiet_where_failed (phase_of new) fault step.announced in
-          moves (Err (Refused fault)) ended _ new step.unused (ran on) (
+          moves (Err (Refused fault)) ended _ new unused (ran on) (
             inl (record { first = first_fault t _ new fault on.along.stands step.announced; timely = step.timely }),
             on.stays,
             quietly_stated _ new on.along.stands quiet,
-          ) (in_time_where_announced new fault ended step.unused step.announced step.timely)
+          ) (in_time_where_announced new fault ended unused step.announced step.timely)
 
     -- a request was not asked, or a write failed meanwhile
     pub asking_stopped : {h : History} (fault : RunFault) (ended : Bool) (front later : List (Request A)) (request : Request A) (old new : Client A)

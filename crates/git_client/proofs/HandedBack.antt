@@ -6,7 +6,8 @@ use Rattle.git_pkt.specs.declared.fault.RunFault.{RunFault}
 use Rattle.git_pkt.specs.declared.fault.RunFault.TheVariants.{ReadFault, WriteFault, ReadLimit, Refused}
 use Rattle.git_msg.specs.declared.requests.Request.{Request}
 use Rattle.git_client.specs.Machine.Client.{can_ask}
-use Rattle.git_client.specs.Machine.RunSteps.{AsksTo, ReceivesResponse}
+use Rattle.git_client.specs.Machine.RunSteps.{AsksTo}
+use Rattle.git_client.specs.Machine.Messages.{ReceivesMessage}
 use Rattle.git_client.specs.Machine.Runs.{IsHandedBack}
 use Rattle.git_client.specs.declared.client.Client.{Client}
 
@@ -28,12 +29,12 @@ module _ {A : Type 0} where
   back_written (Err fault) client named = back_unwritten fault client named
 
   -- a response was not received to its end
-  pub back_from_receiving : (fault : RunFault) (ended : Bool) (old new : Client A) (waiting chunk : List ℕ) (reader out packs progress : Flow)
-      → ReceivesResponse (Err fault) ended old new waiting chunk reader out packs progress → IsHandedBack (Err fault) new
-  back_from_receiving ReadFault ended old new waiting chunk reader out packs progress step = step.expected
-  back_from_receiving ReadLimit ended old new waiting chunk reader out packs progress step = step.expected
-  back_from_receiving WriteFault ended old new waiting chunk reader out packs progress step = tt
-  back_from_receiving (Refused fault) ended old new waiting chunk reader out packs progress step = inl step.announced
+  pub back_from_receiving : (fault : RunFault) (ended : Bool) (old new : Client A) (waiting unused : List ℕ) (reader out packs progress : Flow)
+      → ReceivesMessage (Err fault) ended old new waiting unused reader out packs progress → IsHandedBack (Err fault) new
+  back_from_receiving ReadFault ended old new waiting unused reader out packs progress step = step.expected
+  back_from_receiving ReadLimit ended old new waiting unused reader out packs progress step = step.expected
+  back_from_receiving WriteFault ended old new waiting unused reader out packs progress step = tt
+  back_from_receiving (Refused fault) ended old new waiting unused reader out packs progress step = inl step.announced
 
   -- a request was not asked
   pub back_from_asking : (fault : RunFault) (old new : Client A) (request : Request A) (writer out : Flow) → can_ask old ≡ true

@@ -41,8 +41,9 @@ pub mod ConversationRules
 pub mod WaitingLines
 pub mod ReceivingSteps
 pub mod GatheredChunks
+pub mod ReceiverCalls
+pub mod ReceiverRuns
 pub mod SendingSteps
-pub mod ReceivingBytes
 pub mod Notes
 pub mod AskedInTurn
 pub mod ClientRuns

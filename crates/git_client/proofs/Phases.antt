@@ -14,6 +14,10 @@ pub not_ready_where_failed : (phase : Phase) (fault : Fault) → fault_in phase 
 not_ready_where_failed (Failed f) fault e = refl
 not_ready_where_failed phase fault e = absurd (cc)
 
+pub not_expected_where_failed : (phase : Phase) (fault : Fault) → fault_in phase ≡ Some fault → takes_packets phase ≡ false
+not_expected_where_failed (Failed f) fault e = refl
+not_expected_where_failed phase fault e = absurd (cc)
+
 pub sound_where_expected : (phase : Phase) → takes_packets phase ≡ true → fault_in phase ≡ None
 sound_where_expected (Receiving expected) e = refl
 sound_where_expected phase e = absurd (cc)

@@ -92,11 +92,6 @@ line_same (bytes ∷ more) (others ∷ rest) (same, all) = ap₂ (λ (l m : List
 line_same [] (others ∷ rest) same = absurd same
 line_same (bytes ∷ more) [] same = absurd same
 
-module _ {W T : Type 0} {contents : W → Option (List ℕ)} {a c : Recorded W} {s t : List ℕ} {result : Result T RunFault} where
-  pub puts_as : (given shown : List (List ℕ)) → AreSame given shown → Puts contents a s (line_by given) result c t
-      → Puts contents a s (line_by shown) result c t
-  puts_as given shown same puts = subst (λ (l : List ℕ). Puts contents a s l result c t) (line_same given shown same) puts
-
 pub no_failure : (now was first : Bool) → now ≡ (was || false) → was ≡ first → now ≡ first
 no_failure now true first e h = e ∙ h
 no_failure now false first e h = e ∙ h

@@ -8,5 +8,8 @@ pub mod Gathered
 pub mod Runs
 pub mod RunSteps
 pub mod Running
+pub mod ReceiverStates
+pub mod WriterStates
+pub mod Messages
 pub mod Calls
 pub mod AnyCalls

@@ -198,6 +198,16 @@ impl<A: Allocator + Copy> Client<A> {
         }
     }
 
+    /// The error that ended the conversation.
+    pub(crate) fn fault(&self) -> Option<Fault>
+        ensures { result ≡ fault_of self.now }
+    {
+        let Phase::Failed(fault) = self.phase else {
+            return None;
+        };
+        Some(fault)
+    }
+
     /// The number of bytes used.
     pub fn position(&self) -> u64
         ensures value { result ≡ bytes_used self.now }

@@ -4,6 +4,7 @@ ghost use Rattle.std.specs.Prelude.{◌≡◌, ◌≤◌, ◌<◌, ◌||◌, ◌
 ghost use Rattle.git_pkt.specs.Machine.Recorded.{inner_of, reads_of, has_failed, has_ended, has_wasted, IsNew};
 ghost use Rattle.git_pkt.specs.Machine.Engine.{FailsAs, IsShownBy, IsSpent};
 ghost use Rattle.git_pkt.specs.Streams.{flow, is_broken, Moves};
+ghost use Rattle.git_loop.specs.OneStreams.{HaveSameReader, reader_of, waiting_in};
 ghost use Rattle.git_client.specs.Parts.{Terms};
 ghost use Rattle.git_client.specs.Machine.Client.{Converses, nothing_yet, can_ask, wants_input, fault_of};
 ghost use Rattle.git_client.specs.Machine.Gathered.{dropped};
@@ -12,8 +13,10 @@ ghost use Rattle.git_client.specs.Machine.Runs.{Conversed, IsHandedBack};
 
 use crate::client::Client;
 use crate::events::{Ending, Sent};
-use crate::receiving::{Window, receive_response};
+use crate::gathered::GatheredLines;
+use crate::receiving::receive_response;
 use crate::transcript::write_asked;
+use git_loop::OneInput;
 use git_msg::Request;
 use git_pkt::{Discard, Fault, Output, Recorded, RunFault, flush};
 use std::alloc::Allocator;
@@ -64,12 +67,54 @@ pub fn converse<R: Read, W: Write, O: Write, P: Write, E: Output, A: Allocator +
         (has_failed writer.new || (has_failed out.new || (has_failed pack.new || E.failed progress.new))) }
     ensures handed_back { IsHandedBack result client.new }
 {
+    let mut input = OneInput::new(reader, chunk);
+    converse_over(
+        &mut input, writer, client, requests, out, pack, progress, turns,
+    )
+}
+
+/// Runs a client as [`converse`] does, over an input with no bytes waiting.
+fn converse_over<R: Read, W: Write, O: Write, P: Write, E: Output, A: Allocator + Copy>(
+    input: &mut OneInput<'_, R>,
+    writer: &mut Recorded<W>,
+    client: &mut Client<A>,
+    requests: Vec<Request<A>>,
+    out: &mut Recorded<O>,
+    pack: &mut Recorded<P>,
+    progress: &mut E,
+    turns: u64,
+) -> Result<(), RunFault>
+    requires empty { waiting_in input.old ≡ [] }
+    requires new_reader { IsNew (reader_of input.old) }
+    requires waits { wants_input client.old ≡ true }
+    requires sound_writer { has_failed writer.old ≡ false }
+    requires sound_out { has_failed out.old ≡ false }
+    requires sound_pack { has_failed pack.old ≡ false }
+    requires sound_progress { E.failed progress.old ≡ false }
+
+    ensures reads { reads_of (reader_of input.new) ≤ turns }
+    ensures useful { has_wasted (reader_of input.new) ≡ false }
+    ensures conversed { (t : Terms) → Converses t nothing_yet client.old
+        → Moves (is_broken result) (Conversed t requests.items result (has_ended (reader_of input.new)) client.new)
+        (flow (R.remaining (inner_of (reader_of input.old))) (R.remaining (inner_of (reader_of input.new))) ∷ [])
+        (flow (W.contents (inner_of writer.old)) (W.contents (inner_of writer.new))
+        ∷ flow (O.contents (inner_of out.old)) (O.contents (inner_of out.new))
+        ∷ flow (P.contents (inner_of pack.old)) (P.contents (inner_of pack.new))
+        ∷ flow (E.contents progress.old) (E.contents progress.new) ∷ []) }
+    ensures fault { IfErr result (IsShownBy (IsTrue (has_failed (reader_of input.new)))
+        (IsTrue (has_failed writer.new || (has_failed out.new || (has_failed pack.new || E.failed progress.new))))
+        (IsSpent (reader_of input.new) turns)) }
+    ensures announced { FailsAs result (has_failed (reader_of input.new))
+        (has_failed writer.new || (has_failed out.new || (has_failed pack.new || E.failed progress.new))) }
+    ensures handed_back { IsHandedBack result client.new }
+    ensures same_reader { HaveSameReader input.old input.new }
+{
     flush(writer)?;
-    let nothing = Window { start: 0, end: 0 };
-    let mut waiting = receive_response(client, reader, chunk, nothing, out, pack, progress, turns)?;
+    let mut lines = GatheredLines::new();
+    receive_response(client, input, &mut lines, out, pack, progress, turns)?;
     for request in requests {
         ask_next(client, request, writer, out)?;
-        waiting = receive_response(client, reader, chunk, waiting, out, pack, progress, turns)?;
+        receive_response(client, input, &mut lines, out, pack, progress, turns)?;
     }
     if client.ending == Ending::FlushOnly {
         client.leave();

@@ -25,7 +25,7 @@ use std::alloc::Allocator;
 use std::marker::Model;
 
 /// A further line is put while no more bytes than these wait.
-const GATHERED: usize = 65_536;
+pub(crate) const GATHERED: usize = 65_536;
 
 /// The maximum length of a line: each byte of a packet as an escape of four, with words, names and numbers between them.
 const LONGEST: usize = 4 * 65_516 + 256;
@@ -247,7 +247,7 @@ pub fn gather_chunk<A: Allocator + Copy>(
 }
 
 /// Adds the line of an event, and counts its bytes of the pack and of the progress.
-fn gather_event(event: &Event<'_>, counts: &mut Counts, lines: &mut GatheredLines)
+pub(crate) fn gather_event(event: &Event<'_>, counts: &mut Counts, lines: &mut GatheredLines)
     requires space { length lines.old ≤ GATHERED }
     requires fits { all_parts_length (values_of event.now) ≤ longest_payload }
     ensures lines { lines.new ≡ lines.old ++ lines_of (values_of event.now) counts.old.pack counts.old.progress }

@@ -1,6 +1,6 @@
 //! Receives a response over a reader, and writes its transcript, its pack and its progress.
 
-ghost use Rattle.std.specs.Prelude.{[], ◌≡◌, ◌≤◌, ◌<◌, ◌||◌, length, true, false, IsTrue, OnOk, IfErr, is_err};
+ghost use Rattle.std.specs.Prelude.{[], ◌≡◌, ◌≤◌, ◌||◌, true, false, IsTrue, OnOk, IfErr, is_err};
 ghost use Rattle.std.specs.Io.KnownBytes.{Appends};
 ghost use Rattle.git_pkt.specs.Machine.Recorded.{inner_of, reads_of, has_failed, has_ended, has_wasted};
 ghost use Rattle.git_pkt.specs.Machine.Engine.{FailsAs, IsShownBy, IsSpent};
@@ -8,27 +8,26 @@ ghost use Rattle.git_pkt.specs.Streams.{flow, is_broken, WrittenAs};
 ghost use Rattle.git_client.specs.Machine.Client.{wants_input};
 ghost use Rattle.git_client.specs.Events.{pack_bytes, progress_bytes};
 ghost use Rattle.git_client.specs.Machine.LineParts.{PutAs};
-ghost use Rattle.git_client.specs.Machine.RunSteps.{counts_with, window_of, CanCount, ReceivesChunkTo, ReceivesResponse};
+ghost use Rattle.git_client.specs.Machine.RunSteps.{counts_with, no_counts, CanCount, ReceivesChunkTo};
+ghost use Rattle.git_client.specs.Machine.Messages.{ReceivesMessage};
+ghost use Rattle.git_client.specs.Machine.ReceiverStates.{HasReceived, Waits, received_first};
+ghost use Rattle.git_client.specs.Machine.WriterStates.{HaveSameWriters};
+ghost use Rattle.git_loop.specs.OneStreams.{HaveSameReader, reader_of, waiting_in};
 ghost use Rattle.git_client.specs.Transcript.{lines_of};
 ghost use Rattle.git_client.specs.Machine.Turns.{values_of};
 
 use crate::client::Client;
 use crate::events::{Event, ReceivedGot};
+use crate::gathered::GatheredLines;
 use crate::line::Lines;
+use crate::outputs::Writers;
+use crate::receiver::Receiver;
 use crate::transcript::put_event;
+use git_loop::{OneInput, run_streams};
 use git_names::Steps;
-use git_pkt::{Output, Recorded, RunFault, flush, receive};
+use git_pkt::{Output, Recorded, RunFault, flush};
 use std::alloc::Allocator;
 use std::io::{Read, Write};
-
-/// The bytes of a chunk that were not used yet: from `start` to `end`.
-#[derive(Clone, Copy, Debug)]
-pub struct Window {
-    /// The index of the first byte.
-    pub start: usize,
-    /// The index after the last byte.
-    pub end: usize,
-}
 
 /// The number of bytes of the pack and of the progress in a response so far. A response begins with none.
 #[derive(Clone, Copy, Debug)]
@@ -39,74 +38,92 @@ pub struct Counts {
     pub progress: u64,
 }
 
-/// Receives the expected message, the advertisement or a response, or the rest of it, until the client can ask. It first uses the
-/// unused bytes of the `chunk`, and then reads more into it. The lines of the transcript are written to `out`, the bytes of the pack to
-/// `pack`, and those of the server's progress to `progress`; all three are flushed before each read and at the end. The line at the end
-/// of a response counts only the bytes that this call received. Returns which bytes of the `chunk` were not used.
+/// Receives the expected message, the advertisement or a response, or the rest of it, until the client can ask. The lines of the transcript
+/// are written to `out`, the bytes of the pack to `pack`, and those of the server's progress to `progress`; all three are flushed before
+/// each read and at the end. The line at the end of a response counts only the bytes that this call received. Lines are gathered in `lines`, in
+/// place of those that lie there. The bytes that were not used wait in the input.
 ///
 /// The error is `Refused` with the first error in the received bytes; `ReadFault` if a read fails; `WriteFault` if a write or a flush
 /// fails; and `ReadLimit` if the reader has made `turns` reads and needs one more. After `ReadFault` and `ReadLimit` the
 /// client waits for the rest; after `WriteFault` it is spent, since it may have received more than was written.
-pub fn receive_response<R: Read, O: Write, P: Output, E: Output, A: Allocator + Copy>(
+pub(crate) fn receive_response<R: Read, O: Write, P: Output, E: Output, A: Allocator + Copy>(
     client: &mut Client<A>,
-    reader: &mut Recorded<R>,
-    chunk: &mut [u8],
-    waiting: Window,
+    input: &mut OneInput<'_, R>,
+    lines: &mut GatheredLines,
     out: &mut Recorded<O>,
     pack: &mut P,
     progress: &mut E,
     turns: u64,
-) -> Result<Window, RunFault>
+) -> Result<(), RunFault>
     requires waits { wants_input client.old ≡ true }
-    requires space { 0 < length chunk.old }
-    requires ordered { waiting.start ≤ waiting.end }
-    requires within { waiting.end ≤ length chunk.old }
-    requires sound_reader { has_failed reader.old ≡ false }
-    requires open_ended { has_ended reader.old ≡ false }
-    requires turns { reads_of reader.old ≤ turns }
+    requires sound_reader { has_failed (reader_of input.old) ≡ false }
+    requires open_ended { has_ended (reader_of input.old) ≡ false }
+    requires turns { reads_of (reader_of input.old) ≤ turns }
     requires sound_out { has_failed out.old ≡ false }
     requires sound_pack { P.failed pack.old ≡ false }
     requires sound_progress { E.failed progress.old ≡ false }
 
-    ensures reads { reads_of reader.new ≤ turns }
-    ensures useful { has_wasted reader.new ≡ has_wasted reader.old }
-    ensures arrived { ReceivesResponse result (has_ended reader.new) client.old client.new (window_of waiting chunk.old) chunk.new
-        (flow (R.remaining (inner_of reader.old)) (R.remaining (inner_of reader.new)))
+    ensures reads { reads_of (reader_of input.new) ≤ turns }
+    ensures useful { has_wasted (reader_of input.new) ≡ has_wasted (reader_of input.old) }
+    ensures arrived { ReceivesMessage result (has_ended (reader_of input.new)) client.old client.new (waiting_in input.old) (waiting_in input.new)
+        (flow (R.remaining (inner_of (reader_of input.old))) (R.remaining (inner_of (reader_of input.new))))
         (flow (O.contents (inner_of out.old)) (O.contents (inner_of out.new)))
         (flow (P.contents pack.old) (P.contents pack.new)) (flow (E.contents progress.old) (E.contents progress.new)) }
-    ensures space { length chunk.new ≡ length chunk.old }
-    ensures goes_on { OnOk result (has_ended reader.new ≡ false) }
-    ensures fault { IfErr result (IsShownBy (IsTrue (has_failed reader.new))
-        (IsTrue (has_failed out.new || (P.failed pack.new || E.failed progress.new))) (IsSpent reader.new turns)) }
-    ensures announced { FailsAs result (has_failed reader.new) (has_failed out.new || (P.failed pack.new || E.failed progress.new)) }
+    ensures goes_on { OnOk result (has_ended (reader_of input.new) ≡ false) }
+    ensures fault { IfErr result (IsShownBy (IsTrue (has_failed (reader_of input.new)))
+        (IsTrue (has_failed out.new || (P.failed pack.new || E.failed progress.new))) (IsSpent (reader_of input.new) turns)) }
+    ensures announced { FailsAs result (has_failed (reader_of input.new)) (has_failed out.new || (P.failed pack.new || E.failed progress.new)) }
+    ensures same_reader { HaveSameReader input.old input.new }
 {
-    let mut counts = Counts {
-        pack: 0,
-        progress: 0,
-    };
-    let mut left = waiting;
-    left.start += receive_chunk(
-        client,
-        &mut counts,
-        &chunk[left.start..left.end],
+    let mut receiver = Receiver::new(client, lines);
+    let mut writers = Writers {
         out,
         pack,
         progress,
-    )?;
-    while client.wants_input() {
-        flush_all(out, pack, progress)?;
-        if reader.reads() == turns {
-            return Err(RunFault::ReadLimit);
-        }
-        let end = receive(reader, chunk)?;
-        if end == 0 {
-            return Err(RunFault::Refused(client.close()));
-        }
-        let start = receive_chunk(client, &mut counts, &chunk[..end], out, pack, progress)?;
-        left = Window { start, end };
+        flushed: false,
+    };
+    run_receiver(input, &mut receiver, &mut writers, turns)
+}
+
+/// Runs the machine over its input and its outputs.
+fn run_receiver<R: Read, O: Write, P: Output, E: Output, A: Allocator + Copy>(
+    input: &mut OneInput<'_, R>,
+    receiver: &mut Receiver<'_, '_, A>,
+    writers: &mut Writers<'_, '_, '_, O, P, E>,
+    turns: u64,
+) -> Result<(), RunFault>
+    requires begun { HasReceived (received_first receiver.old.client.now no_counts) receiver.old }
+    requires waits { Waits receiver.old }
+    requires sound_reader { has_failed (reader_of input.old) ≡ false }
+    requires open_ended { has_ended (reader_of input.old) ≡ false }
+    requires turns { reads_of (reader_of input.old) ≤ turns }
+    requires sound_out { has_failed writers.old.out.now ≡ false }
+    requires sound_pack { P.failed writers.old.pack.now ≡ false }
+    requires sound_progress { E.failed writers.old.progress.now ≡ false }
+
+    ensures reads { reads_of (reader_of input.new) ≤ turns }
+    ensures useful { has_wasted (reader_of input.new) ≡ has_wasted (reader_of input.old) }
+    ensures arrived { ReceivesMessage result (has_ended (reader_of input.new)) receiver.old.client.now receiver.new.client.now (waiting_in input.old)
+        (waiting_in input.new) (flow (R.remaining (inner_of (reader_of input.old))) (R.remaining (inner_of (reader_of input.new))))
+        (flow (O.contents (inner_of writers.old.out.now)) (O.contents (inner_of writers.new.out.now)))
+        (flow (P.contents writers.old.pack.now) (P.contents writers.new.pack.now))
+        (flow (E.contents writers.old.progress.now) (E.contents writers.new.progress.now)) }
+    ensures goes_on { OnOk result (has_ended (reader_of input.new) ≡ false) }
+    ensures fault { IfErr result (IsShownBy (IsTrue (has_failed (reader_of input.new)))
+        (IsTrue (has_failed writers.new.out.now || (P.failed writers.new.pack.now || E.failed writers.new.progress.now)))
+        (IsSpent (reader_of input.new) turns)) }
+    ensures announced { FailsAs result (has_failed (reader_of input.new))
+        (has_failed writers.new.out.now || (P.failed writers.new.pack.now || E.failed writers.new.progress.now)) }
+    ensures same_reader { HaveSameReader input.old input.new }
+    ensures same_client { receiver.new.client.ghost_name ≡ receiver.old.client.ghost_name }
+    ensures same_writers { HaveSameWriters writers.old writers.new }
+{
+    let allowed = turns - input.reads();
+    run_streams(receiver, input, writers, allowed)?;
+    match receiver.fault() {
+        Some(fault) => Err(RunFault::Refused(fault)),
+        None => Ok(()),
     }
-    flush_all(out, pack, progress)?;
-    Ok(left)
 }
 
 /// Receives the messages in a chunk, until the client can ask. The count starts at `counts`, the bytes of the response so far. Returns how

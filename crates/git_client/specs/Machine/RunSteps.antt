@@ -18,7 +18,6 @@ use Rattle.git_client.specs.Machine.Client.{History, Converses, ReceivesOn, Send
 use Rattle.git_client.specs.Machine.Client.{has_left, left_to_send, wants_input}
 use Rattle.git_client.specs.declared.client.Client.{Client}
 use Rattle.git_client.specs.declared.receiving.Counts.{Counts}
-use Rattle.git_client.specs.declared.receiving.Window.{Window}
 
 abbrev pub no_counts : Counts
 no_counts = record { pack = 0; progress = 0 }
@@ -41,10 +40,6 @@ IsOneTurn [] asks = asks ≡ false
 IsOneTurn (offered ∷ events) asks = (events ≡ []) × (asks ≡ true)
 IsOneTurn (response_ended ∷ events) asks = (events ≡ []) × (asks ≡ true)
 IsOneTurn (event ∷ events) asks = IsOneTurn events asks
-
--- the bytes of a chunk that were not used yet
-abbrev pub window_of : Window → List ℕ → List ℕ
-window_of window chunk = take (window.end - window.start) (drop window.start chunk)
 
 -- all packets before the last were written whole, and of the last a prefix
 pub record BreaksOff (stream : Flow) (given : List ℕ) : Type 0 where
@@ -112,40 +107,12 @@ module _ {A : Type 0} where
     pub parts : waiting ++ came ≡ used ++ unused
     pub bytes : ReceivesBytes broken old new no_counts counts used out packs progress
 
-  -- a response was received whole
-  pub record ReceivesWholeResponse (window : Window) (old new : Client A) (waiting chunk : List ℕ) (reader out packs progress : Flow) : Type 0 where
-    pub arrives : ReceivesFrom false old new waiting (window_of window chunk) reader out packs progress
-    pub ordered : window.start ≤ window.end
-    pub within : window.end ≤ length chunk
-    pub can_ask_on : can_ask new ≡ true
-
-  -- all bytes were received, and more are expected
-  pub record ReceivesAllInput (old new : Client A) (waiting : List ℕ) (reader out packs progress : Flow) : Type 0 where
-    pub arrives : ReceivesFrom false old new waiting [] reader out packs progress
-    pub expected : wants_input new ≡ true
-
   -- there was an error
   pub record ReceivesUntilFault (fault : Fault) (ended : Bool) (old new : Client A) (waiting : List ℕ) (reader out packs progress : Flow) : Type 0 where
     pub unused : List ℕ
     pub arrives : ReceivesFrom false old new waiting unused reader out packs progress
     pub announced : fault_of new ≡ Some fault
     pub timely : IsTimely fault.kind ended unused
-
-  -- a write or a flush failed; if the client has an error, it came in time
-  pub record ReceivesUntilBroken (ended : Bool) (old new : Client A) (waiting : List ℕ) (reader out packs progress : Flow) : Type 0 where
-    pub unused : List ℕ
-    pub arrives : ReceivesFrom true old new waiting unused reader out packs progress
-    pub timely : FaultsInTime new ended unused
-
-  -- how a response was received
-  abbrev pub ReceivesResponse : Result Window RunFault → Bool → Client A → Client A → List ℕ → List ℕ → Flow → Flow → Flow → Flow → Type 0
-  ReceivesResponse (Ok window) ended old new waiting chunk reader out packs progress =
-      ReceivesWholeResponse window old new waiting chunk reader out packs progress
-  ReceivesResponse (Err ReadFault) ended old new waiting chunk reader out packs progress = ReceivesAllInput old new waiting reader out packs progress
-  ReceivesResponse (Err ReadLimit) ended old new waiting chunk reader out packs progress = ReceivesAllInput old new waiting reader out packs progress
-  ReceivesResponse (Err WriteFault) ended old new waiting chunk reader out packs progress = ReceivesUntilBroken ended old new waiting reader out packs progress
-  ReceivesResponse (Err (Refused fault)) ended old new waiting chunk reader out packs progress =
-      ReceivesUntilFault fault ended old new waiting reader out packs progress
 
   -- packets that had to be sent were taken and written; all of them, unless a write failed, and then no more were taken after that
   pub record SendsPackets (broken : Bool) (old new : Client A) (writer : Flow) : Type 0 where
