@@ -1,15 +1,15 @@
 -- The calls of a machine that judges a conversation: what it needs, and the lines that it lends.
-use Rattle.std.proofs.Common.{◌≡◌, ◌≢◌, ◌==◌, ℕ, true, false, List, [], ◌∷◌, ◌++◌, length, take, None, Some}
+use Rattle.std.proofs.Common.{◌≡◌, ◌≢◌, ◌==◌, ℕ, Bool, true, false, List, [], ◌∷◌, ◌++◌, length, take, IsSome, None, Some}
 use Rattle.std.proofs.Common.{refl, sym, subst, ap, ◌∙◌, append_assoc, append-nil}
-use Rattle.git_client.specs.Parts.{Terms, terms_of}
+use Rattle.git_client.specs.Parts.{Terms}
 use Rattle.git_client.specs.Machine.Client.{Converses, nothing_yet, wants_input}
 use Rattle.git_client.specs.Machine.RunSteps.{no_counts}
 use Rattle.git_client.specs.declared.client.Client.{Client}
 use Rattle.git_client.specs.declared.receiving.Counts.{Counts}
 use Rattle.git_client.proofs.ReceivedBytes.{nothing_received}
-use Rattle.git2show_lib.specs.Machine.Checker.{Carries, Checks, IsOpening, IsSieving, StandsIn, first_of, is_needed, left_in, lent_by}
-use Rattle.git2show_lib.specs.Machine.Checker.{needed_by, needed_in, needed_of, waiting_in}
-use Rattle.git2show_lib.specs.Machine.CheckerTurns.{AreOpenEnded, IsSound}
+use Rattle.git2show_lib.specs.Machine.Checker.{Carries, Checks, Fed, IsCheckOf, IsOpening, IsSieving, Leads, StandsIn, first_of, is_needed}
+use Rattle.git2show_lib.specs.Machine.Checker.{is_opened, left_in, lent_by, needed_by, needed_in, needed_of, verdict_in, waiting_in}
+use Rattle.git2show_lib.specs.Machine.CheckerTurns.{FitsTurn, IsSound, uses_no_more}
 use Rattle.git2show_lib.specs.Machine.KeptLines.{noted_in}
 use Rattle.git2show_lib.specs.Machine.Noting.{Gathers, HasNotedLines}
 use Rattle.git2show_lib.specs.declared.checker.Checker.{Checker}
@@ -21,6 +21,7 @@ use Rattle.git2show_lib.specs.declared.checker.Turn.{Turn}
 use Rattle.git2show_lib.specs.declared.checker.Turn.TheVariants.{Opening, Request, Response, Sieved, Passing, End, Over}
 use Rattle.git2show_lib.specs.declared.noting.Noting.{Noting}
 use Rattle.git2show_lib.specs.declared.other_lines.OtherLines.{OtherLines}
+use Rattle.git2show_lib.proofs.CheckerStands.{check_of, fits_in, none_wait, still_open}
 use Rattle.git2show_lib.proofs.CheckerSteps.{nothing_gathered}
 
 -- ---- lines that are lent and taken
@@ -50,11 +51,36 @@ first_taken (byte ∷ chunk) some = (byte, refl)
 pub same_stream : (turn : Turn) (from stream : Stream) → needed_in turn ≡ Input from → needed_in turn ≡ Input stream → from ≡ stream
 same_stream turn from stream is known = cc
 
+needs_requests : (turn : Turn) → needed_in turn ≡ Input OfRequests → turn ≡ Request
+needs_requests Request is = refl
+needs_requests turn is = absurd (cc)
+
+unless_so : (so : Bool) → (so ≡ true → ⊥) → so ≡ false
+unless_so false never = refl
+unless_so true never = absurd (never refl)
+
 -- bytes of the stream are needed, and nothing else
 pub needed_is : (from : Stream) (needed : Needed) → is_needed from needed ≡ true → needed ≡ Input from
 needed_is OfRequests (Input OfRequests) is = refl
 needed_is OfResponses (Input OfResponses) is = refl
 needed_is from needed is = absurd (cc)
+
+-- a verdict is on both streams
+pub over_in : (turn : Turn) (stream : Stream) → IsSome (verdict_in turn) → uses_no_more stream turn ≡ true
+over_in (Over result) OfRequests is = refl
+over_in (Over result) OfResponses is = refl
+over_in turn stream is = absurd (cc)
+
+-- where requests are needed, bytes of both streams may be needed later
+pub none_done : (turn : Turn) (stream : Stream) → needed_in turn ≡ Input OfRequests → uses_no_more stream turn ≡ true → ⊥
+none_done Opening stream needs done = absurd (cc)
+none_done Request OfRequests needs done = absurd (cc)
+none_done Request OfResponses needs done = absurd (cc)
+none_done Response stream needs done = absurd (cc)
+none_done (Sieved start) stream needs done = absurd (cc)
+none_done Passing stream needs done = absurd (cc)
+none_done End stream needs done = absurd (cc)
+none_done (Over result) stream needs done = absurd (cc)
 
 module _ {A : Type 0} where
   -- ---- what is needed
@@ -67,11 +93,48 @@ module _ {A : Type 0} where
   pub needs : (c : Checker A) (from : Stream) → needed_of c ≡ Input from → needed_in c.turn ≡ Input from
   needs c from is = subst (λ (lines : List ℕ). needed_by c lines ≡ Input from) (none_lent c (lent_by c) from is) is
 
-  -- so bytes that were used are of the stream that the turn needs
-  pub carries_of : (old new : Checker A) (bytes : List ℕ) (from stream : Stream) → needed_of old ≡ Input from → needed_in old.turn ≡ Input stream
-      → Carries stream bytes old new → Carries from bytes old new
-  carries_of old new bytes from stream is known carries =
-      subst (λ (s : Stream). Carries s bytes old new) (sym (same_stream old.turn from stream (needs old from is) known)) carries
+  -- and no line waits
+  pub quiet : (c : Checker A) (from : Stream) → needed_of c ≡ Input from → waiting_in c ≡ []
+  quiet c from is = none_wait c.lines (noted_in c.others).lines (none_lent c (lent_by c) from is)
+
+  -- so what was used is of the stream that the turn needs
+  pub leads_of : (old new : Checker A) (step : Fed → Fed) (from stream : Stream) → needed_of old ≡ Input from → needed_in old.turn ≡ Input stream
+      → Leads stream step old new → Leads from step old new
+  leads_of old new step from stream is known leads =
+      subst (λ (s : Stream). Leads s step old new) (sym (same_stream old.turn from stream (needs old from is) known)) leads
+
+  -- requests are needed only before one, or in one
+  needs_a_request : (c : Checker A) → is_needed OfRequests (needed_of c) ≡ true → c.turn ≡ Request
+  needs_a_request c needed = needs_requests c.turn (needs c OfRequests (needed_is OfRequests (needed_of c) needed))
+
+  -- and so where the advertisement is whole
+  pub opened_where_needed : (c : Checker A) → is_needed OfRequests (needed_of c) ≡ true → is_opened c ≡ true
+  opened_where_needed c needed = (fits_in c Request (needs_a_request c needed)).0
+
+  -- a stream that has ended is not needed
+  ended_requests : (c : Checker A) → c.requests_ended ≡ true → is_needed OfRequests (needed_of c) ≡ false
+  ended_requests c ended = unless_so (is_needed OfRequests (needed_of c)) (λ needed.
+      let not_ended = (fits_in c Request (needs_a_request c needed)).1 in absurd (cc))
+
+  ended_responses : (c : Checker A) → c.responses_ended ≡ true → is_needed OfResponses (needed_of c) ≡ false
+  ended_responses c ended = unless_so (is_needed OfResponses (needed_of c)) (λ needed.
+      let needs_them = needs c OfResponses (needed_is OfResponses (needed_of c) needed) in
+      let not_ended = still_open c c.turn refl (λ nothing. absurd (cc)) in absurd (cc))
+
+  pub closed_requests : (t : Terms) (limit : ℕ) (requests responses : Fed) (lent : List ℕ) (c : Checker A) → Checks t limit requests responses lent c
+      → requests.closed ≡ true → is_needed OfRequests (needed_of c) ≡ false
+  closed_requests t limit requests responses lent c k closed = ended_requests c (k.requests_closed ∙ closed)
+
+  pub closed_responses : (t : Terms) (limit : ℕ) (requests responses : Fed) (lent : List ℕ) (c : Checker A) → Checks t limit requests responses lent c
+      → responses.closed ≡ true → is_needed OfResponses (needed_of c) ≡ false
+  closed_responses t limit requests responses lent c k closed = ended_responses c (k.responses_closed ∙ closed)
+
+  -- no bytes of a stream were used
+  pub nothing_used : (c : Checker A) (from : Stream) → Carries from [] c c
+  nothing_used c OfRequests t limit requests responses lent k =
+      subst (λ (l : List ℕ). Checks t limit (record { bytes = l; closed = requests.closed }) responses lent c) (sym (append-nil requests.bytes)) k
+  nothing_used c OfResponses t limit requests responses lent k =
+      subst (λ (l : List ℕ). Checks t limit requests (record { bytes = l; closed = responses.closed }) lent c) (sym (append-nil responses.bytes)) k
 
   -- ---- before the first byte
 
@@ -96,38 +159,38 @@ module _ {A : Type 0} where
   abbrev Sound : Checker A → Type 0
   Sound c = IsSound c.turn c.client c.noting c.requests c.packets c.received c.hold.items
 
-  abbrev OpenEnded : Checker A → Type 0
-  OpenEnded c = AreOpenEnded c.turn c.requests_ended c.responses_ended
+  abbrev Fits : Checker A → Type 0
+  Fits c = FitsTurn c.turn c.opened c.requests_ended c.responses_ended
 
   -- what was lent was taken: what waits now is what is left of what waited
   pub record IsTaken (old new : Checker A) : Type 0 where
     pub lines : List ℕ
     pub others : OtherLines A
     pub sound : Sound old
-    pub open_ended : OpenEnded old
-    pub is : new ≡ record old { lines = lines; others = others; sound = sound; open_ended = open_ended }
+    pub fits : Fits old
+    pub is : new ≡ record old { lines = lines; others = others; sound = sound; fits = fits }
     pub moved : (lent : List ℕ) → lent ++ waiting_in old ≡ (lent ++ lent_by old) ++ (lines ++ (noted_in others).lines)
     pub some : lines ++ (noted_in others).lines ≢ [] → waiting_in old ≢ []
 
-  pub taken_others : (old new : Checker A) (others : OtherLines A) (sound : Sound old) (open_ended : OpenEnded old)
-      → new ≡ record old { others = others; sound = sound; open_ended = open_ended } → old.lines ≡ [] → (noted_in others).lines ≡ [] → IsTaken old new
-  taken_others old new others sound open_ended is none empty = record {
+  pub taken_others : (old new : Checker A) (others : OtherLines A) (sound : Sound old) (fits : Fits old)
+      → new ≡ record old { others = others; sound = sound; fits = fits } → old.lines ≡ [] → (noted_in others).lines ≡ [] → IsTaken old new
+  taken_others old new others sound fits is none empty = record {
     lines = old.lines;
     others = others;
     sound = sound;
-    open_ended = open_ended;
+    fits = fits;
     is = is;
     moved = λ lent. moved_others lent old.lines (noted_in old.others).lines (noted_in others).lines none empty;
     some = λ more. absurd (more (rw (none, empty) refl));
   }
 
-  pub taken_gathered : (old new : Checker A) (lines : List ℕ) (sound : Sound old) (open_ended : OpenEnded old)
-      → new ≡ record old { lines = lines; sound = sound; open_ended = open_ended } → old.lines ≢ [] → lines ≡ [] → IsTaken old new
-  taken_gathered old new lines sound open_ended is some empty = record {
+  pub taken_gathered : (old new : Checker A) (lines : List ℕ) (sound : Sound old) (fits : Fits old)
+      → new ≡ record old { lines = lines; sound = sound; fits = fits } → old.lines ≢ [] → lines ≡ [] → IsTaken old new
+  taken_gathered old new lines sound fits is some empty = record {
     lines = lines;
     others = old.others;
     sound = sound;
-    open_ended = open_ended;
+    fits = fits;
     is = is;
     moved = λ lent. moved_gathered lent old.lines (noted_in old.others).lines lines some empty;
     some = λ more none. some (nothing_gathered old.lines (noted_in old.others).lines none);
@@ -135,19 +198,19 @@ module _ {A : Type 0} where
 
   -- it stands as it did, with what is left of the lines
   stands_on : (t : Terms) (limit : ℕ) (requests responses : List ℕ) (turn : Turn) (c : Checker A) (lines : List ℕ) (others : OtherLines A)
-      (sound : Sound c) (open_ended : OpenEnded c) (after : List ℕ) → (lines ++ (noted_in others).lines ≢ [] → waiting_in c ≢ [])
+      (sound : Sound c) (fits : Fits c) (after : List ℕ) → (lines ++ (noted_in others).lines ≢ [] → waiting_in c ≢ [])
       → ((start : ℕ) → turn ≡ Sieved start → lines ++ (noted_in others).lines ≡ [] → left_in c ≡ [])
       → StandsIn turn t limit requests responses after c
-      → StandsIn turn t limit requests responses after (record c { lines = lines; others = others; sound = sound; open_ended = open_ended })
-  stands_on t limit requests responses Opening c lines others sound open_ended after some left s = s
-  stands_on t limit requests responses Request c lines others sound open_ended after some left s = (s.0, λ more. s.1 (some more))
-  stands_on t limit requests responses Response c lines others sound open_ended after some left s = s
-  stands_on t limit requests responses (Sieved start) c lines others sound open_ended after some left s = (s.0, λ none. left start refl none)
-  stands_on t limit requests responses Passing c lines others sound open_ended after some left s = s
-  stands_on t limit requests responses End c lines others sound open_ended after some left s = s
-  stands_on t limit requests responses (Over result) c lines others sound open_ended after some left s = s
+      → StandsIn turn t limit requests responses after (record c { lines = lines; others = others; sound = sound; fits = fits })
+  stands_on t limit requests responses Opening c lines others sound fits after some left s = s
+  stands_on t limit requests responses Request c lines others sound fits after some left s = (s.0, λ more. s.1 (some more))
+  stands_on t limit requests responses Response c lines others sound fits after some left s = s
+  stands_on t limit requests responses (Sieved start) c lines others sound fits after some left s = (s.0, λ none. left start refl none)
+  stands_on t limit requests responses Passing c lines others sound fits after some left s = s
+  stands_on t limit requests responses End c lines others sound fits after some left s = s
+  stands_on t limit requests responses (Over result) c lines others sound fits after some left s = s
 
-  module _ {t : Terms} {limit : ℕ} {requests responses : List ℕ} where
+  module _ {t : Terms} {limit : ℕ} {requests responses : Fed} where
     -- where some wait, or no packet is sieved, that is all
     pub checks_taken : {old new : Checker A} {lent : List ℕ} (taken : IsTaken old new)
         → ((start : ℕ) → new.turn ≡ Sieved start → waiting_in new ≡ [] → ⊥) → Checks t limit requests responses lent old
@@ -156,29 +219,28 @@ module _ {A : Type 0} where
         subst (λ (c : Checker A). Checks t limit requests responses (lent ++ lent_by old) c) (sym taken.is) (record {
           terms = k.terms;
           limit_is = k.limit_is;
-          stands = stands_on t limit requests responses old.turn old taken.lines taken.others taken.sound taken.open_ended _ taken.some
+          requests_closed = k.requests_closed;
+          responses_closed = k.responses_closed;
+          stands = stands_on t limit requests.bytes responses.bytes old.turn old taken.lines taken.others taken.sound taken.fits _ taken.some
               (λ start is none. absurd (unless start (ap (λ (c : Checker A). c.turn) taken.is ∙ is)
               (ap (λ (c : Checker A). waiting_in c) taken.is ∙ none)))
-              (subst (λ (l : List ℕ). StandsIn old.turn t limit requests responses l old) (taken.moved lent) k.stands);
+              (subst (λ (l : List ℕ). StandsIn old.turn t limit requests.bytes responses.bytes l old) (taken.moved lent) k.stands);
         })
 
     -- or else the client receives what is left of a packet
     pub sieves_on : {old new : Checker A} {lent : List ℕ} (start : ℕ) (taken : IsTaken old new) → new.turn ≡ Sieved start
         → Checks t limit requests responses lent old
-        → IsSieving t limit requests responses ((lent ++ lent_by old) ++ waiting_in new) (left_in new) new.client new.counts new.requests new.passed start
-        new.sieve new.packets new.offset
+        → IsSieving t limit requests.bytes responses.bytes ((lent ++ lent_by old) ++ waiting_in new) (left_in new) new.client new.counts new.requests
+        new.passed start new.sieve new.packets new.offset
     sieves_on {old} {new} {lent} start taken is k =
         let was : old.turn ≡ Sieved start = sym (ap (λ (c : Checker A). c.turn) taken.is) ∙ is in
-        let stands : StandsIn (Sieved start) t limit requests responses (lent ++ waiting_in old) old =
-        subst (λ (turn : Turn). StandsIn turn t limit requests responses (lent ++ waiting_in old) old) was k.stands in
-        subst (λ (c : Checker A). IsSieving t limit requests responses ((lent ++ lent_by old) ++ waiting_in c) (left_in c) c.client c.counts c.requests
-        c.passed start c.sieve c.packets c.offset) (sym taken.is)
-        (subst (λ (l : List ℕ). IsSieving t limit requests responses l (left_in old) old.client old.counts old.requests old.passed start old.sieve
+        let stands : StandsIn (Sieved start) t limit requests.bytes responses.bytes (lent ++ waiting_in old) old =
+        subst (λ (turn : Turn). StandsIn turn t limit requests.bytes responses.bytes (lent ++ waiting_in old) old) was k.stands in
+        subst (λ (c : Checker A). IsSieving t limit requests.bytes responses.bytes ((lent ++ lent_by old) ++ waiting_in c) (left_in c) c.client c.counts
+        c.requests c.passed start c.sieve c.packets c.offset) (sym taken.is)
+        (subst (λ (l : List ℕ). IsSieving t limit requests.bytes responses.bytes l (left_in old) old.client old.counts old.requests old.passed start old.sieve
         old.packets old.offset) (taken.moved lent) stands.0)
 
-    pub same_terms : {old new : Checker A} {lent : List ℕ} → IsTaken old new → Checks t limit requests responses lent old
-        → (t ≡ terms_of new.format new.ending) × (limit ≡ new.limits.args)
-    same_terms {old} {new} taken k = (
-      k.terms ∙ sym (ap (λ (c : Checker A). terms_of c.format c.ending) taken.is),
-      k.limit_is ∙ sym (ap (λ (c : Checker A). c.limits.args) taken.is),
-    )
+    pub same_check : {old new : Checker A} {lent : List ℕ} → IsTaken old new → Checks t limit requests responses lent old
+        → IsCheckOf t limit requests responses new
+    same_check {old} {new} taken k = subst (λ (c : Checker A). IsCheckOf t limit requests responses c) (sym taken.is) (check_of k)

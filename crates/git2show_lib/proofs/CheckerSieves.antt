@@ -7,45 +7,44 @@ use Rattle.std.proofs.lemmas.Grind.{flat_map-append}
 use Rattle.std.proofs.lemmas.List.{drop-drop, drop_all}
 use Rattle.git_pkt.specs.Packets.{Pkt, body_of, longest_payload, spelling_of}
 use Rattle.git_pkt.specs.Splits.{Given, Splits}
-use Rattle.git_pkt.specs.Streams.{flow}
 use Rattle.git_pkt.specs.Machine.PacketReader.{Reads, ReadsOn, fault_of as reader_fault_of, is_open, passes_of, position_of}
 use Rattle.git_pkt.specs.declared.fault.Fault.{Fault}
 use Rattle.git_pkt.specs.declared.fault.Kind.{Kind}
-use Rattle.git_pkt.specs.declared.fault.Kind.TheVariants.{StreamTooLong, Truncated}
-use Rattle.git_pkt.specs.declared.fault.RunFault.TheVariants.{Refused}
+use Rattle.git_pkt.specs.declared.fault.Kind.TheVariants.{Truncated}
 use Rattle.git_pkt.specs.declared.reader.PacketReader.{PacketReader}
 use Rattle.git_pkt.proofs.Chunks.{left_of}
 use Rattle.git_pkt.proofs.EngineLemmas.{timely}
 use Rattle.git_pkt.proofs.Spelling.{no_bytes}
 use Rattle.git_msg.proofs.StreamSteps.{rest_behind, stopped_by}
 use Rattle.git_client.specs.Parts.{Terms}
-use Rattle.git_client.specs.Machine.Client.{bytes_used, can_ask, fault_of, phase_of, spelled, wants_input}
+use Rattle.git_client.specs.Machine.Client.{Converses, History, bytes_used, can_ask, fault_of, phase_of, spelled, wants_input}
 use Rattle.git_client.specs.Machine.Gathered.{dropped, gathered}
-use Rattle.git_client.specs.Machine.RunSteps.{ReceivesBytes}
+use Rattle.git_client.specs.Machine.RunSteps.{ReceivesBytes, no_counts}
 use Rattle.git_client.specs.declared.client.Client.{Client}
 use Rattle.git_client.specs.declared.receiving.Counts.{Counts}
+use Rattle.git_client.proofs.EventsReceived.{awaits_more, is_whole, position_is}
+use Rattle.git_client.proofs.Faults.{first_fault}
 use Rattle.git_client.proofs.Phases.{not_ready_where_expected}
 use Rattle.git_client.proofs.ReceivedBytes.{received_then}
 use Rattle.git2show_lib.specs.Sieve.{ArePassed, received_as, sieved, sieved_from, sieved_packet, spot_after}
-use Rattle.git2show_lib.specs.Machine.CheckedStreams.{moved}
-use Rattle.git2show_lib.specs.Machine.Checker.{IsAsked, IsOver, IsPartOfLast, IsReading, IsSieving, form_of}
+use Rattle.git2show_lib.specs.Machine.CheckedStreams.{Checked, IsSieved, ReceivesAll, SieveBreaksOff, SieveRefuses, SieveRefusesLater, moved, place_after}
+use Rattle.git2show_lib.specs.Machine.Checker.{AreFitting, IsAsked, IsOver, IsPartOfLast, IsReading, IsSieving, form_of, unfailed}
+use Rattle.git2show_lib.specs.Machine.Checking.{Checking, counted}
 use Rattle.git2show_lib.specs.Machine.OtherAnswers.{ClosesAnswer}
-use Rattle.git2show_lib.specs.Machine.Sieving.{AreFitting, BreaksOffAt, IsAllReceived, IsRefusedBefore, IsRefusedBy, Sieves}
-use Rattle.git2show_lib.specs.Machine.TurnSteps.{ReceivesTo, counted}
-use Rattle.git2show_lib.specs.declared.asking.Remaining.{Remaining}
 use Rattle.git2show_lib.specs.declared.checking.CheckFault.TheVariants.{Responses}
 use Rattle.git2show_lib.specs.declared.judged_requests.JudgedRequests.{JudgedRequests}
-use Rattle.git2show_lib.specs.declared.other_answers.Passed.{Passed}
 use Rattle.git2show_lib.specs.declared.sieve.Form.{Form}
 use Rattle.git2show_lib.specs.declared.sieve.Sieve.{Sieve}
 use Rattle.git2show_lib.specs.declared.sieve.Spot.{Spot}
 use Rattle.git2show_lib.specs.declared.sieve.Spot.TheVariants.{Header}
-use Rattle.git2show_lib.proofs.CheckEnds.{answering_stopped}
-use Rattle.git2show_lib.proofs.CheckRuns.{response_received}
-use Rattle.git2show_lib.proofs.CheckerEnds.{checked_lists, nothing_left, read_to}
-use Rattle.git2show_lib.proofs.CheckerSteps.{asked_further, nothing_gathered, request_unused, requests_known, responses_known}
+use Rattle.git2show_lib.proofs.CheckBroken.{ends_so}
+use Rattle.git2show_lib.proofs.CheckRuns.{counted_asked, place_asked, response_received, runs_asked, runs_of, turn_of}
+use Rattle.git2show_lib.proofs.CheckerCut.{receives_sieved, response_within}
+use Rattle.git2show_lib.proofs.CheckerEnds.{AreShown, checked_behind}
+use Rattle.git2show_lib.proofs.CheckerSteps.{asked_further, nothing_gathered}
 use Rattle.git2show_lib.proofs.SievedLists.{passed_then, sieved_then, spot_then}
-use Rattle.git2show_lib.proofs.SievedPackets.{fitting_then, packets_more, ready_splits, rest_of_front}
+use Rattle.git2show_lib.proofs.Turns.{moved_by_count}
+use Rattle.git2show_lib.proofs.SievedPackets.{ArePackets, fitting_then, packets_more, ready_splits, rest_of_front}
 
 -- the first of two lists of packets that fit, and the second
 fitting_front : (ps qs : List Pkt) → AreFitting (ps ++ qs) → AreFitting ps
@@ -105,35 +104,32 @@ nothing_held chunk hold lines others received used most is (inr long) quiet =
 -- the check ends with a fault of a response that is sieved
 module _ {A : Type 0} {t : Terms} {limit : ℕ} {requests responses lines used : List ℕ} {middle : Client A} {stream : JudgedRequests A} {passed : ℕ}
     (a : IsAsked t limit requests responses lines used middle stream passed) {form : Form} (is : form_of t limit a ≡ Some form) where
-  response_ended : (ended : Bool) {new : Client A} {after : List ℕ} (start : ℕ) → start ≡ bytes_used middle
-      → (sieves : Sieves false form middle new used (gathered lines after)) (fault : Fault)
-      → ((unused : List ℕ) → (ended ≡ true → unused ≡ []) → (fault.kind ≡ StreamTooLong → 0 < length unused)
-      → BreaksOffAt fault ended unused sieves ⊎ (IsRefusedBefore fault sieves ⊎ IsRefusedBy fault sieves))
-      → (opened requests_ended : Bool)
-      → IsOver A t limit (Err (Responses (moved (counted (start + passed)) fault))) opened requests_ended ended requests responses after
-  response_ended ended {new} {after} start start_is sieves fault why opened requests_ended more_requests more_responses follow =
-      let at : Remaining = record { left = nothing_left; passed = passed } in
-      let reported = Responses (moved (counted (start + passed)) fault) in
-      checked_lists (answering_stopped A t limit (read_to requests_ended) (read_to ended) new at (Some []) (Some after)
-      (requests_known more_requests (responses_known more_responses a.checking)) (request_unused more_requests a.step) reported [] 0 false (Unit {0})
-      (Unit {0}) (inr (record {
-        middle = middle;
-        asked = Some lines;
-        asks = a.asks;
-        expected = a.expected;
-        receives = subst (λ (f : Option Form). ReceivesTo f (Err reported) ended middle new at [] []
-            (flow (Some (used ++ more_responses)) (Some [])) (gathered lines after)) (sym is) (record {
-              own = Refused fault;
-              placed_is = ap (λ (m : ℕ). Responses (moved (counted (m + passed)) fault)) start_is;
-              sieves = record {
-                used = used;
-                unused = more_responses;
-                uses = record { came = used ++ more_responses; read = sym (append-nil (used ++ more_responses)); parts = refl };
-                sieves = sieves;
-                why = why more_responses follow.responses_end follow.shows;
-              };
-            });
-      })) (refl, refl) tt)
+  response_ended : (ended : Bool) {new : Client A} {counts : Counts} {received after : List ℕ} (start : ℕ) → start ≡ bytes_used middle
+      → (sieves : IsSieved form used received) → ReceivesBytes false middle new no_counts counts received (gathered lines after) dropped dropped
+      → (fault : Fault) (requests_ended : Bool) (more_requests more_responses : List ℕ)
+      → ((h : History) → Converses t h new → SieveBreaksOff t h ended more_responses used sieves fault
+      ⊎ (SieveRefuses t h sieves fault ⊎ SieveRefusesLater t h sieves fault))
+      → Checked A t limit (Err (Responses (moved (counted (start + passed)) fault))) (unfailed requests_ended) (unfailed ended)
+      ((requests ++ more_requests) ∷ (responses ++ more_responses) ∷ []) (after ∷ [])
+  response_ended ended {received = received} start start_is sieves b fault requests_ended more_requests more_responses why =
+      let w = response_within more_requests a b (receives_sieved (form_of t limit a) form used received is sieves) in
+      ends_so (w.finds more_responses) (inr (inr (
+        a.checking.r.turns,
+        record {
+          own = fault;
+          is = record {
+            all_asked = w.all_asked;
+            last = turn_of a b;
+            turns_are = refl;
+            form = form;
+            form_is = is;
+            s = sieves;
+            why = why w.h w.stands;
+          };
+          reported = moved_by_count (counted (start + passed)) (place_after a.checking.r.opening a.checking.r.turns) fault
+              (counted_asked a start start_is);
+        },
+      )))
 
 module _ {A : Type 0} {t : Terms} {limit : ℕ} {requests responses lines left : List ℕ} {client : Client A} {counts : Counts} {stream : JudgedRequests A}
     {passed start : ℕ} {sieve : Sieve} {packets : PacketReader} {offset : ℕ}
@@ -141,7 +137,7 @@ module _ {A : Type 0} {t : Terms} {limit : ℕ} {requests responses lines left :
   -- ---- the client receives of what is left for it
 
   -- what the client received a part of
-  abbrev last_part : 0 < length left → IsPartOfLast sieve.form s.sieves.given s.sieves.rest s.sieves.received left offset
+  abbrev last_part : 0 < length left → IsPartOfLast sieve.form s.sieves.given s.sieves.rest s.received left offset
   last_part some = elim s.last [
     | inl none ↦ absurd (omega (arith, some, ap length none))
     | inr l ↦ l
@@ -149,29 +145,27 @@ module _ {A : Type 0} {t : Terms} {limit : ℕ} {requests responses lines left :
 
   module _ {new : Client A} {now : Counts} {after chunk : List ℕ} (n : ℕ) (same : chunk ≡ left)
       (arrives : ReceivesBytes false client new counts now (take n chunk) (gathered lines after) dropped dropped) where
-    b : ReceivesBytes false client new counts now (take n left) (gathered lines after) dropped dropped
-    b = subst (λ (l : List ℕ). ReceivesBytes false client new counts now (take n l) (gathered lines after) dropped dropped) same arrives
-
     -- what the client received of the response, with these bytes
-    sieves_part : Sieves false sieve.form s.middle new s.used (gathered s.before after)
+    sieves_part : IsSieved sieve.form s.used (s.received ++ take n left)
     sieves_part = record {
       given = s.sieves.given;
       bad = s.sieves.bad;
       rest = s.sieves.rest;
       splits = s.sieves.splits;
       passed = s.sieves.passed;
-      received = s.sieves.received ++ take n left;
       beyond = drop n left;
-      cut = s.sieves.cut ∙ ap (λ (l : List ℕ). s.sieves.received ++ l) (s.left_is ∙ sym (take-append-drop n left))
-          ∙ sym (append_assoc s.sieves.received (take n left) (drop n left));
-      counts = now;
-      bytes = received_then (not_ready_where_expected (phase_of client) s.waits) s.sieves.bytes
-          (subst (λ (c : Counts). ReceivesBytes false client new c now (take n left) (gathered lines after) dropped dropped) (sym s.counts_are) b);
+      cut = s.sieves.cut ∙ ap (λ (l : List ℕ). s.received ++ l) (s.left_is ∙ sym (take-append-drop n left))
+          ∙ sym (append_assoc s.received (take n left) (drop n left));
     }
 
+    bytes_part : ReceivesBytes false s.middle new no_counts now (s.received ++ take n left) (gathered s.before after) dropped dropped
+    bytes_part =
+        received_then (not_ready_where_expected (phase_of client) s.waits) s.bytes
+        (subst (λ (l : List ℕ). ReceivesBytes false client new counts now (take n l) (gathered lines after) dropped dropped) same arrives)
+
     -- and how that lies in the last packet
-    part_with : IsPartOfLast sieve.form s.sieves.given s.sieves.rest s.sieves.received left offset
-        → IsPartOfLast sieve.form s.sieves.given s.sieves.rest (s.sieves.received ++ take n left) (drop n left) offset
+    part_with : IsPartOfLast sieve.form s.sieves.given s.sieves.rest s.received left offset
+        → IsPartOfLast sieve.form s.sieves.given s.sieves.rest (s.received ++ take n left) (drop n left) offset
     part_with l = record {
       front = l.front;
       packet = l.packet;
@@ -195,12 +189,13 @@ module _ {A : Type 0} {t : Terms} {limit : ℕ} {requests responses lines left :
       before = s.before;
       asked = s.asked;
       form_is = s.form_is;
+      received = s.received ++ take n left;
       sieves = sieves_part;
+      bytes = bytes_part;
       none_bad = s.none_bad;
       left_is = refl;
       last = inr (part_with (last_part some));
       fits = s.fits;
-      counts_are = refl;
       spot_is = s.spot_is;
       reads = s.reads;
       sound = s.sound;
@@ -210,7 +205,7 @@ module _ {A : Type 0} {t : Terms} {limit : ℕ} {requests responses lines left :
     }
 
     module _ (some : 0 < length left) where
-      abbrev l : IsPartOfLast sieve.form s.sieves.given s.sieves.rest s.sieves.received left offset
+      abbrev l : IsPartOfLast sieve.form s.sieves.given s.sieves.rest s.received left offset
       l = last_part some
 
       -- the client refuses what it received
@@ -218,10 +213,11 @@ module _ {A : Type 0} {t : Terms} {limit : ℕ} {requests responses lines left :
           → IsOver A t limit (Err (Responses (moved (counted (start + passed)) (record { kind = fault.kind; offset = offset })))) opened requests_ended false
           requests responses after
       unfolding sieves_part
-      passing_refused fault failed other =
+      passing_refused fault failed other opened requests_ended more_requests more_responses follow =
           let last = part_with l in
-          response_ended s.asked s.form_is false start s.start_is sieves_part (record { kind = fault.kind; offset = offset })
-          (λ unused none long. inr (inr (record {
+          response_ended s.asked s.form_is false start s.start_is sieves_part bytes_part (record { kind = fault.kind; offset = offset })
+          requests_ended more_requests
+          more_responses (λ h stands. inr (inr (record {
             front = last.front;
             packet = last.packet;
             given_is = last.given_is;
@@ -233,7 +229,7 @@ module _ {A : Type 0} {t : Terms} {limit : ℕ} {requests responses lines left :
             received_is = last.received_is;
             part_is = last.part_is;
             own = fault;
-            failed = failed;
+            first = first_fault t h new fault stands failed;
             kind_is = refl;
             not_the_end = other;
             at = sym last.at;
@@ -248,9 +244,10 @@ module _ {A : Type 0} {t : Terms} {limit : ℕ} {requests responses lines left :
           ∙ ap (λ (ps : List Pkt). sieved sieve.form l.front ++ ps) last) s.fits
 
       -- a client that can ask received all of it, if no packet was begun before the response
-      receives_all : 0 < n → n ≤ length left → fault_of new ≡ None → wants_input new ≡ false → IsAllReceived s.middle (drop n left)
+      receives_all : 0 < n → n ≤ length left → fault_of new ≡ None → wants_input new ≡ false → (h : History)
+          → Converses t h s.middle → ArePackets h.used → drop n left ≡ []
       unfolding sieves_part part_with
-      receives_all used within sound ready terms h stands before = none_of (drop n left) refl where
+      receives_all used within sound ready h stands before = none_of (drop n left) refl where
         front : List ℕ
         front = spelled (sieved sieve.form l.front)
 
@@ -260,8 +257,8 @@ module _ {A : Type 0} {t : Terms} {limit : ℕ} {requests responses lines left :
         none_of : (rest : List ℕ) → drop n left ≡ rest → rest ≡ []
         none_of [] is = refl
         none_of (byte ∷ rest) is =
-            let (given, splits) = ready_splits terms _ new (sieves_part.bytes.arrives terms h stands) sound ready in
-            let parts : h.used ++ (s.sieves.received ++ take n left) ≡ (h.used ++ front) ++ part =
+            let (given, splits) = ready_splits t _ new (bytes_part.arrives t h stands) sound ready in
+            let parts : h.used ++ (s.received ++ take n left) ≡ (h.used ++ front) ++ part =
             ap (λ (r : List ℕ). h.used ++ (r ++ take n left)) l.received_is
             ∙ ap (λ (r : List ℕ). h.used ++ r) (append_assoc front l.part (take n left)) ∙ sym (append_assoc h.used front part) in
             let none = rest_of_front (h.used ++ front) part (drop n left) l.passed_as given
@@ -277,47 +274,52 @@ module _ {A : Type 0} {t : Terms} {limit : ℕ} {requests responses lines left :
       unfolding sieves_part
       passes_all ready used within sound after_passed is =
           let a = s.asked in
-          let now_at : Remaining = record { left = nothing_left; passed = passed } in
-          let then : Remaining = record { left = nothing_left; passed = after_passed } in
-          let whole : Passed = record { left = nothing_left; count = position_of packets } in
+          let received = s.received ++ take n left in
+          let runs = runs_of a bytes_part in
+          let conversation = is_whole t a.checking.h a.old a.checking.runs.along.stands a.checking.ready in
+          let none : sieves_part.beyond ≡ [] =
+          receives_all used (omega (arith, within, ap length same)) sound (asks_alone new ready) _ (runs_asked a).along.stands
+          (conversation.given, conversation.splits) in
+          let splits : Splits 0 s.used s.sieves.given [] =
+          subst (λ (rest : List ℕ). Splits 0 s.used s.sieves.given rest) l.no_rest
+          (subst (λ (gs : List Given). Splits 0 s.used gs s.sieves.rest)
+          (ap (λ (gs : List Given). s.sieves.given ++ gs) s.none_bad ∙ append-nil s.sieves.given) s.sieves.splits) in
+          let cut : spelled (sieved sieve.form s.sieves.given) ≡ received =
+          sieves_part.cut ∙ ap (λ (r : List ℕ). received ++ r) none ∙ append-nil received in
+          let count : position_of packets - (bytes_used new - start) ≡ length s.used - length received =
+          omega (
+            arith,
+            s.reads.position,
+            s.start_is,
+            place_asked a,
+            position_is t _ new runs.along.stands,
+            length-append a.checking.h.used received,
+          ) in
           record {
-            checking = response_received [] now_at then a.checking a.step a.asks a.expected (Some sieve.form) s.form_is (record {
-              passed = whole;
-              sieves = record {
-                used = s.used;
-                uses = record { came = s.used; read = sym (append-nil s.used); parts = sym (append-nil s.used) };
-                sieves = sieves_part;
-                none_bad = s.none_bad;
-                no_rest = l.no_rest;
-                all = receives_all used (omega (arith, within, ap length same)) sound (asks_alone new ready);
-                count = omega (arith, s.reads.position);
-                ordered = omega arith;
-                within = omega arith;
-                can_ask_on = ready;
-              };
-              left = refl;
-              count = is ∙ ap (λ (m : ℕ). counted (passed + (position_of packets - (bytes_used new - m)))) s.start_is;
-            });
-            ready = a.step.whole.onward;
+            checking = subst (λ (m : ℕ). Checking t limit new stream m [] requests responses after)
+                (sym (is ∙ ap (λ (m : ℕ). counted (passed + m)) count))
+                (response_received a bytes_part ready
+                (subst (λ (form : Option Form). ReceivesAll form s.used received) (sym s.form_is) (s.sieves.given, splits, s.sieves.passed, cut)));
+            ready = a.read.onward;
           }
 
   -- ---- nothing is left for the client, and more bytes come
 
   module _ (none : left ≡ []) where
     -- it received all that was passed on to it
-    received_so_far : spelled (sieved sieve.form s.sieves.given) ≡ s.sieves.received
-    received_so_far = s.sieves.cut ∙ ap (λ (l : List ℕ). s.sieves.received ++ l) (s.left_is ∙ none) ∙ append-nil s.sieves.received
+    received_so_far : spelled (sieved sieve.form s.sieves.given) ≡ s.received
+    received_so_far = s.sieves.cut ∙ ap (λ (l : List ℕ). s.received ++ l) (s.left_is ∙ none) ∙ append-nil s.received
 
     -- the responses end
     pub sieving_closed : (fault : Fault) → ClosesAnswer fault packets → (opened requests_ended : Bool)
         → IsOver A t limit (Err (Responses (moved (counted (start + passed)) fault))) opened requests_ended true requests responses lines
-    sieving_closed fault (kind, cut) =
-        response_ended s.asked s.form_is true start s.start_is s.sieves fault (λ unused end long. inl (record {
+    sieving_closed fault (kind, cut) opened requests_ended more_requests more_responses follow =
+        response_ended s.asked s.form_is true start s.start_is s.sieves s.bytes fault requests_ended more_requests more_responses (λ h stands. inl (record {
           none_bad = s.none_bad;
           all = s.left_is ∙ none;
-          waits = s.waits;
+          goes_on = awaits_more t h client stands s.waits;
           breaks = inr (cut s.used s.sieves.given s.sieves.rest s.reads);
-          timely = rw kind (end refl, refl);
+          timely = rw kind (follow.responses_end refl, refl);
         }))
 
     module _ {new : PacketReader} {more : List ℕ} {gs : List Given} (reads : ReadsOn packets more gs new) where
@@ -327,29 +329,26 @@ module _ {A : Type 0} {t : Terms} {limit : ℕ} {requests responses lines left :
 
       -- some were passed on, and the client has yet to receive these bytes
       fed : ArePassed sieve.form sieve.spot gs → (after_left : List ℕ) → spelled (sieved_from sieve.form sieve.spot gs) ≡ after_left
-          → Sieves false sieve.form s.middle client (s.used ++ more) (gathered s.before lines)
+          → IsSieved sieve.form (s.used ++ more) s.received
       fed are after_left is = record {
         given = s.sieves.given ++ gs;
         bad = [];
         rest = read_all.0;
         splits = subst (λ (l : List Given). Splits 0 (s.used ++ more) l read_all.0) (sym (append-nil (s.sieves.given ++ gs))) read_all.1.splits;
         passed = passed_then sieve.form Header s.sieves.given gs s.sieves.passed (subst (λ (spot : Spot). ArePassed sieve.form spot gs) s.spot_is are);
-        received = s.sieves.received;
         beyond = after_left;
         cut = ap spelled (sieved_then sieve.form Header s.sieves.given gs)
             ∙ flat_map-append spelling_of (sieved sieve.form s.sieves.given) (sieved_from sieve.form (spot_after sieve.form Header s.sieves.given) gs)
             ∙ ap (λ (l : List ℕ). l ++ spelled (sieved_from sieve.form (spot_after sieve.form Header s.sieves.given) gs)) received_so_far
-            ∙ ap (λ (spot : Spot). s.sieves.received ++ spelled (sieved_from sieve.form spot gs)) (sym s.spot_is)
-            ∙ ap (λ (l : List ℕ). s.sieves.received ++ l) is;
-        counts = s.sieves.counts;
-        bytes = s.sieves.bytes;
+            ∙ ap (λ (spot : Spot). s.received ++ spelled (sieved_from sieve.form spot gs)) (sym s.spot_is)
+            ∙ ap (λ (l : List ℕ). s.received ++ l) is;
       }
 
       -- the response goes on
       fed_further : (next : Sieve) (after_left : List ℕ) (after_offset : ℕ) → next.form ≡ sieve.form
           → next.spot ≡ spot_after sieve.form sieve.spot gs → ArePassed sieve.form sieve.spot gs → AreFitting (sieved_from sieve.form sieve.spot gs)
           → spelled (sieved_from sieve.form sieve.spot gs) ≡ after_left → reader_fault_of new ≡ None → passes_of new ≡ false
-          → (after_left ≡ []) ⊎ IsPartOfLast sieve.form (s.sieves.given ++ gs) read_all.0 s.sieves.received after_left after_offset
+          → (after_left ≡ []) ⊎ IsPartOfLast sieve.form (s.sieves.given ++ gs) read_all.0 s.received after_left after_offset
           → IsSieving t limit requests (responses ++ more) lines after_left client counts stream passed start next new after_offset
       unfolding fed
       fed_further next after_left after_offset same spot_is are fits is sound gathers last =
@@ -360,14 +359,15 @@ module _ {A : Type 0} {t : Terms} {limit : ℕ} {requests responses lines left :
             before = s.before;
             asked = asked_further more s.asked;
             form_is = s.form_is;
+            received = s.received;
             sieves = fed are after_left is;
+            bytes = s.bytes;
             none_bad = refl;
             left_is = refl;
             last = last;
             fits = subst AreFitting (sym (sieved_then sieve.form Header s.sieves.given gs))
                 (fitting_then (sieved sieve.form s.sieves.given) (sieved_from sieve.form (spot_after sieve.form Header s.sieves.given) gs) s.fits
                 (subst (λ (spot : Spot). AreFitting (sieved_from sieve.form spot gs)) s.spot_is fits));
-            counts_are = s.counts_are;
             spot_is = spot_is ∙ ap (λ (spot : Spot). spot_after sieve.form spot gs) s.spot_is
                 ∙ sym (spot_then sieve.form Header s.sieves.given gs);
             reads = read_all.1;
@@ -384,19 +384,22 @@ module _ {A : Type 0} {t : Terms} {limit : ℕ} {requests responses lines left :
         fed_further reads sieve left offset refl refl tt tt (sym none) sound gathers (inl none)
 
     -- they are no packet
-    pub fed_broken : {new : PacketReader} {more : List ℕ} → ReadsOn packets more [] new → (fault : Fault) → reader_fault_of new ≡ Some fault
-        → fault.kind ≢ Truncated → (opened requests_ended : Bool)
-        → IsOver A t limit (Err (Responses (moved (counted (start + passed)) fault))) opened requests_ended false requests (responses ++ more) lines
+    pub fed_broken : {new : PacketReader} {more shown : List ℕ} → ReadsOn packets more [] new → (fault : Fault) → reader_fault_of new ≡ Some fault
+        → fault.kind ≢ Truncated → AreShown fault.kind more shown → (opened requests_ended : Bool)
+        → IsOver A t limit (Err (Responses (moved (counted (start + passed)) fault))) opened requests_ended false requests (responses ++ shown) lines
     unfolding fed
-    fed_broken {new} {more} reads fault failed other =
+    fed_broken {new} {more} reads fault failed other shown opened requests_ended more_requests more_responses follow =
         let (rest, all) = read_all reads in
-        response_ended (asked_further more s.asked) s.form_is false start s.start_is (fed reads tt [] refl) fault (λ unused end long. inl (record {
+        checked_behind {result = Err (Responses (moved (counted (start + passed)) fault))} responses more_responses shown
+        (λ behind in_time.
+        response_ended (asked_further more s.asked) s.form_is false start s.start_is (fed reads tt [] refl) s.bytes fault requests_ended more_requests behind
+        (λ h stands. inl (record {
           none_bad = refl;
           all = refl;
-          waits = s.waits;
+          goes_on = awaits_more t h client stands s.waits;
           breaks = inl (record { stops = stopped_by new (s.used ++ more) (s.sieves.given ++ []) rest fault failed all; not_the_end = other });
-          timely = timely fault.kind false unused other long;
-        }))
+          timely = in_time;
+        }))) other
 
     module _ {new : PacketReader} {more : List ℕ} {g : Given} (reads : ReadsOn packets more (g ∷ []) new) (sound : reader_fault_of new ≡ None)
         (shut : is_open new ≡ false) where
@@ -434,32 +437,30 @@ module _ {A : Type 0} {t : Terms} {limit : ℕ} {requests responses lines left :
             }))
 
       -- or it is refused
-      fed_bad : Sieves false sieve.form s.middle client (s.used ++ more) (gathered s.before lines)
+      fed_bad : IsSieved sieve.form (s.used ++ more) s.received
       fed_bad = record {
         given = s.sieves.given;
         bad = g ∷ [];
         rest = [];
         splits = subst (λ (l : List ℕ). Splits 0 (s.used ++ more) (s.sieves.given ++ g ∷ []) l) nothing_after (read_all reads).1.splits;
         passed = s.sieves.passed;
-        received = s.sieves.received;
         beyond = [];
-        cut = received_so_far ∙ sym (append-nil s.sieves.received);
-        counts = s.sieves.counts;
-        bytes = s.sieves.bytes;
+        cut = received_so_far ∙ sym (append-nil s.received);
       }
 
       pub fed_refused : (kind : Kind) → sieved_packet sieve.form sieve.spot g.packet ≡ Err kind → (opened requests_ended : Bool)
           → IsOver A t limit (Err (Responses (moved (counted (start + passed)) (record { kind = kind; offset = g.offset })))) opened requests_ended false
           requests (responses ++ more) lines
       unfolding fed_bad
-      fed_refused kind refused =
-          response_ended (asked_further more s.asked) s.form_is false start s.start_is fed_bad (record { kind = kind; offset = g.offset })
-          (λ unused end long. inr (inl (record {
+      fed_refused kind refused opened requests_ended more_requests more_responses follow =
+          response_ended (asked_further more s.asked) s.form_is false start s.start_is fed_bad s.bytes
+          (record { kind = kind; offset = g.offset }) requests_ended
+          more_requests more_responses (λ h stands. inr (inl (record {
             packet = g;
             bad_is = refl;
             no_rest = refl;
             all = refl;
-            waits = s.waits;
+            goes_on = awaits_more t h client stands s.waits;
             refused = subst (λ (spot : Spot). sieved_packet sieve.form spot g.packet ≡ Err kind) s.spot_is refused;
             at = refl;
           })))

@@ -1,17 +1,19 @@
 pub mod CheckRuns
-pub mod CheckEnds
+pub mod CheckBroken
 pub mod CheckerSteps
 pub mod CheckerCalls
+mod JudgingCalls
+mod CheckRun
 pub mod CheckerStands
 pub mod CheckerEnds
 pub mod CheckerRequests
 pub mod CheckerResponses
 pub mod CheckerSieves
+pub mod CheckerCut
+pub mod CheckerBroken
 pub mod OtherLines
 pub mod LinesEscaped
 pub mod KnownTurns
-pub mod TurnsTaken
-pub mod RequestsShown
 pub mod Turns
 pub mod ChunkParts
 pub mod PassedAnswers
@@ -32,7 +34,6 @@ pub mod ScriptLists
 pub mod Scripting
 pub mod ScriptReading
 pub mod ScriptLaws
-pub mod RequestsRead
 pub mod PlayFlushes
 pub mod PlayTalks
 pub mod PlayRuns
@@ -48,5 +49,3 @@ pub mod ScriptValues
 pub mod SievedLengths
 pub mod SievedLists
 pub mod SievedPackets
-pub mod SievedChunks
-pub mod SievedResponses

@@ -9,12 +9,11 @@ pub mod KeptLines
 pub mod JudgedRequests
 pub mod OtherAnswers
 pub mod CheckSteps
-pub mod Sieving
 pub mod CheckedStreams
-pub mod TurnSteps
 pub mod Checking
 pub mod CheckerTurns
 pub mod Checker
+pub mod JudgingStates
 pub mod HeldScripts
 pub mod ScriptLines
 pub mod ScriptFaults

@@ -13,12 +13,12 @@
 //!  more bytes are used.
 //! ```
 
-ghost use Rattle.std.specs.Prelude.{◌≡◌, ◌⊎◌, ◌+◌, ◌++◌, ◌∷◌, ◌≤◌, ◌<◌, [], ℕ, List, length, min, take, Err, IsSome, false, true};
-ghost use Rattle.git_client.specs.Parts.{Terms, terms_of};
+ghost use Rattle.std.specs.Prelude.{◌≡◌, ◌≢◌, ◌⊎◌, ◌+◌, ◌∷◌, ◌≤◌, ◌<◌, [], ℕ, length, min, take, Err, IsSome, false, true};
+ghost use Rattle.git_client.specs.Parts.{terms_of};
 ghost use Rattle.git_client.specs.Machine.Client.{bytes_used};
 ghost use Rattle.git_client.specs.Machine.RunSteps.{no_counts};
 ghost use Rattle.git2show_lib.specs.Machine.CheckedStreams.{moved};
-ghost use Rattle.git2show_lib.specs.Machine.CheckerTurns.{AreOpenEnded, AreOpenEnded-prop, IsSound, one_sound};
+ghost use Rattle.git2show_lib.specs.Machine.CheckerTurns.{FitsTurn, FitsTurn-prop, IsSound, bytes_shown, one_sound, uses_no_more};
 ghost use Rattle.git2show_lib.specs.declared.checking.CheckFault.TheVariants.{Responses};
 
 use crate::checking::CheckFault;
@@ -105,17 +105,18 @@ pub struct Checker<A: Allocator + Copy> {
     requests_ended: bool,
     responses_ended: bool,
     ghost sound: { IsSound turn client noting requests packets received hold.items } by { one_sound turn client noting requests packets received hold.items },
-    ghost open_ended: { AreOpenEnded turn requests_ended responses_ended } by { AreOpenEnded-prop turn requests_ended responses_ended },
+    ghost fits: { FitsTurn turn opened requests_ended responses_ended } by { FitsTurn-prop turn opened requests_ended responses_ended },
 }
 
 impl<A: Allocator + Copy> Checker<A> {
-    ghost use Rattle.git2show_lib.specs.Machine.Checker.{AsksOn, Carries, Checks, PassesOn, is_needed, lent_by, needed_in, needed_of};
+    ghost use Rattle.git2show_lib.specs.Machine.Checker.{AsksOn, Carries, CarriesEnd, CarriesLines, Checks, PassesOn, StaysDone, StaysOpened};
+    ghost use Rattle.git2show_lib.specs.Machine.Checker.{is_done_with, is_needed, lent_by, lines_left, needed_in, needed_of, nothing_fed};
     ghost use Rattle.git2show_lib.specs.Machine.Checker.{verdict_in, verdict_of, waiting_in};
 
     /// A checker before the first byte, of a conversation of this object format whose responses end so. Arguments are kept in memory from
     /// `alloc`, up to the limit for each request.
     pub fn new(alloc: A, format: Format, ending: Ending, limits: Limits) -> Checker<A>
-        ensures { Checks (terms_of format ending) limits.args [] [] [] result }
+        ensures { Checks (terms_of format ending) limits.args nothing_fed nothing_fed [] result }
     {
         let client = Client::new(format, ending);
         let offer = client.caps().offer(format);
@@ -185,8 +186,10 @@ impl<A: Allocator + Copy> Checker<A> {
 
     /// Forgets the lines that [`Checker::lines`] lends.
     pub fn lines_taken(&mut self)
-        ensures { (t : Terms) (limit : ℕ) (requests responses lent : List ℕ) → Checks t limit requests responses lent self.old
-            → Checks t limit requests responses (lent ++ lent_by self.old) self.new }
+        ensures carries { CarriesLines self.old self.new }
+        ensures fewer { lent_by self.old ≢ [] → lines_left self.new < lines_left self.old }
+        ensures stays_opened { StaysOpened self.old self.new }
+        ensures stays_done { StaysDone self.old self.new }
     {
         if self.lines.as_slice().is_empty() {
             self.others.forget();
@@ -205,6 +208,8 @@ impl<A: Allocator + Copy> Checker<A> {
     pub fn feed(&mut self, from: Stream, chunk: &[u8]) -> usize
         ensures used { result ≤ length chunk.now }
         ensures carries { Carries from (take result chunk.now) self.old self.new }
+        ensures stays_opened { StaysOpened self.old self.new }
+        ensures stays_done { StaysDone self.old self.new }
         ensures moves { is_needed from (needed_of self.old) ≡ true → 0 < length chunk.now → (0 < result) ⊎ IsSome (verdict_of self.new) }
         ensures stays { is_needed from (needed_of self.old) ≡ false → (result ≡ 0) × (self.new ≡ self.old) }
     {
@@ -227,8 +232,11 @@ impl<A: Allocator + Copy> Checker<A> {
 
     /// Ends a stream, if its bytes are needed. Where they are not, its end is yet to be fed, as bytes that were not used are.
     pub fn close(&mut self, from: Stream)
-        ensures carries { Carries from [] self.old self.new }
+        ensures carries { is_needed from (needed_of self.old) ≡ true → CarriesEnd from self.old self.new }
+        ensures stays_opened { StaysOpened self.old self.new }
+        ensures stays_done { StaysDone self.old self.new }
         ensures ended { is_needed from (needed_of self.old) ≡ true → is_needed from (needed_of self.new) ≡ false }
+        ensures done { is_needed from (needed_of self.old) ≡ true → is_done_with from self.new ≡ true }
         ensures stays { is_needed from (needed_of self.old) ≡ false → self.new ≡ self.old }
     {
         if !self.needs(from) {
@@ -256,11 +264,12 @@ impl<A: Allocator + Copy> Checker<A> {
         ensures used { result ≤ length chunk.now }
         ensures moves { 0 < length chunk.now → (0 < result) ⊎ IsSome (verdict_in self.new.turn) }
         ensures carries { Carries Stream.Responses (take result chunk.now) self.old self.new }
+        ensures stays_opened { StaysOpened self.old self.new }
     {
         let gathered = gather_chunk(&mut self.client, &mut self.counts, chunk, &mut self.lines);
         if let Some(fault) = gathered.fault {
             self.turn = refused(fault, 0);
-            return gathered.used;
+            return shown_by(fault, gathered.used, chunk);
         }
         self.noting.note(&chunk[..gathered.used]);
         if !self.client.can_ask() {
@@ -288,6 +297,7 @@ impl<A: Allocator + Copy> Checker<A> {
         ensures used { result ≤ length chunk.now }
         ensures moves { 0 < length chunk.now → (0 < result) ⊎ IsSome (verdict_in self.new.turn) }
         ensures carries { Carries Stream.Requests (take result chunk.now) self.old self.new }
+        ensures stays_opened { StaysOpened self.old self.new }
     {
         let read = self.requests.feed(chunk);
         let used = read.used;
@@ -309,7 +319,7 @@ impl<A: Allocator + Copy> Checker<A> {
             }
             JudgedGot::Failed(fault) => {
                 self.turn = Turn::Over(Err(CheckFault::Requests(fault)));
-                used
+                shown_by(fault, used, chunk)
             }
         }
     }
@@ -318,7 +328,8 @@ impl<A: Allocator + Copy> Checker<A> {
     fn ask(&mut self, judged: Judged<A>)
         requires turn { self.old.turn ≡ Turn.Request }
         requires none_waits { waiting_in self.old ≡ [] }
-        ensures { AsksOn judged self.old self.new }
+        ensures asks { AsksOn judged self.old self.new }
+        ensures stays_opened { StaysOpened self.old self.new }
     {
         let form = judged.others.form(self.format);
         let command = judged.request.command();
@@ -348,11 +359,12 @@ impl<A: Allocator + Copy> Checker<A> {
         ensures used { result ≤ length chunk.now }
         ensures moves { 0 < length chunk.now → (0 < result) ⊎ IsSome (verdict_in self.new.turn) }
         ensures carries { Carries Stream.Responses (take result chunk.now) self.old self.new }
+        ensures stays_opened { StaysOpened self.old self.new }
     {
         let gathered = gather_chunk(&mut self.client, &mut self.counts, chunk, &mut self.lines);
         if let Some(fault) = gathered.fault {
             self.turn = refused(fault, self.passed);
-            return gathered.used;
+            return shown_by(fault, gathered.used, chunk);
         }
         if self.client.can_ask() {
             self.turn = Turn::Request;
@@ -368,6 +380,7 @@ impl<A: Allocator + Copy> Checker<A> {
         ensures used { result ≤ length chunk.now }
         ensures moves { 0 < length chunk.now → (0 < result) ⊎ IsSome (verdict_in self.new.turn) }
         ensures carries { Carries Stream.Responses (take result chunk.now) self.old self.new }
+        ensures stays_opened { StaysOpened self.old self.new }
     {
         let fed = self.packets.feed(chunk, &mut Steps::new());
         let used = fed.used;
@@ -375,7 +388,7 @@ impl<A: Allocator + Copy> Checker<A> {
             Got::More => used,
             Got::Failed(fault) => {
                 self.turn = refused(fault, start.saturating_add(self.passed));
-                used
+                shown_by(fault, used, chunk)
             }
             Got::Packet(packet, offset) => match self.sieve.take(packet) {
                 Ok(None) => used,
@@ -398,7 +411,9 @@ impl<A: Allocator + Copy> Checker<A> {
     fn pass_on(&mut self, start: u64)
         requires turn { self.old.turn ≡ Turn.Sieved start }
         requires none_waits { waiting_in self.old ≡ [] }
-        ensures { PassesOn start self.old self.new }
+        ensures passes { PassesOn start self.old self.new }
+        ensures no_more { lines_left self.new ≤ lines_left self.old }
+        ensures stays_opened { StaysOpened self.old self.new }
     {
         let rest = &self.hold.as_slice()[self.received..];
         if rest.is_empty() {
@@ -428,6 +443,7 @@ impl<A: Allocator + Copy> Checker<A> {
         ensures used { result ≤ length chunk.now }
         ensures moves { 0 < length chunk.now → (0 < result) ⊎ IsSome (verdict_in self.new.turn) }
         ensures carries { Carries Stream.Responses (take result chunk.now) self.old self.new }
+        ensures stays_opened { StaysOpened self.old self.new }
     {
         // It is asked for first: no invariant holds where the packets have failed.
         let place = self.place();
@@ -449,7 +465,9 @@ impl<A: Allocator + Copy> Checker<A> {
     fn feed_end(&mut self) -> usize
         requires turn { self.old.turn ≡ Turn.End }
         ensures used { result ≡ 1 }
+        ensures over { IsSome (verdict_in self.new.turn) }
         ensures carries { (byte : ℕ) → Carries Stream.Responses (byte ∷ []) self.old self.new }
+        ensures stays_opened { StaysOpened self.old self.new }
     {
         self.turn = Turn::Over(Err(CheckFault::Responses(Fault {
             kind: Kind::UnexpectedPacket,
@@ -461,8 +479,10 @@ impl<A: Allocator + Copy> Checker<A> {
     fn close_requests(&mut self)
         requires turn { self.old.turn ≡ Turn.Request }
         requires none_waits { waiting_in self.old ≡ [] }
-        ensures carries { Carries Stream.Requests [] self.old self.new }
+        ensures carries { CarriesEnd Stream.Requests self.old self.new }
+        ensures stays_opened { StaysOpened self.old self.new }
         ensures ended { is_needed Stream.Requests (needed_of self.new) ≡ false }
+        ensures done { uses_no_more Stream.Requests self.new.turn ≡ true }
     {
         self.requests_ended = true;
         self.turn = match self.requests.close() {
@@ -474,8 +494,10 @@ impl<A: Allocator + Copy> Checker<A> {
     fn close_responses(&mut self)
         requires needs { needed_in self.old.turn ≡ Needed.Input Stream.Responses }
         requires none_waits { waiting_in self.old ≡ [] }
-        ensures carries { Carries Stream.Responses [] self.old self.new }
+        ensures carries { CarriesEnd Stream.Responses self.old self.new }
+        ensures stays_opened { StaysOpened self.old self.new }
         ensures ended { is_needed Stream.Responses (needed_of self.new) ≡ false }
+        ensures over { IsSome (verdict_in self.new.turn) }
     {
         let place = self.place();
         self.responses_ended = true;
@@ -510,6 +532,19 @@ fn refused(fault: Fault, before: u64) -> Turn
         kind: fault.kind,
         offset,
     })))
+}
+
+/// How many bytes of a chunk show the fault that was met after so many: a byte that is one too many is used, too.
+fn shown_by(fault: Fault, used: usize, chunk: &[u8]) -> usize
+    requires within { used ≤ length chunk.now }
+    requires one_more { fault.kind ≡ Kind.StreamTooLong → used < length chunk.now }
+    ensures shown { result ≡ bytes_shown fault.kind used }
+    ensures within { result ≤ length chunk.now }
+{
+    match fault.kind {
+        Kind::StreamTooLong => used + 1,
+        _ => used,
+    }
 }
 
 /// No bytes of a response.

@@ -1,20 +1,21 @@
 //! A recorded conversation, both of its streams checked against each other.
 
-ghost use Rattle.std.specs.Prelude.{[], ◌∷◌, ◌≡◌, ◌+◌, ◌≤◌, ◌<◌, ◌||◌, length, false, IsTrue, IfErr};
+ghost use Rattle.std.specs.Prelude.{[], ◌∷◌, ◌≡◌, ◌+◌, ◌≤◌, ◌<◌, ◌||◌, ◌⊎◌, ℕ, length, true, false, IsTrue, IfErr};
 ghost use Rattle.git_pkt.specs.Machine.Recorded.{inner_of, reads_of, has_failed, has_wasted, IsNew};
 ghost use Rattle.git_pkt.specs.Machine.Engine.{FailsAs, IsShownBy};
 ghost use Rattle.git_pkt.specs.Streams.{flow, is_broken, Moves};
-ghost use Rattle.git_client.specs.Parts.{terms_of};
+ghost use Rattle.git_loop.specs.OneStreams.{HaveSameWriter, writer_of};
+ghost use Rattle.git_loop.specs.TwoStreams.{HaveSameReaders, RanTwo, first_reader_of, first_waiting, second_reader_of, second_waiting};
+ghost use Rattle.git_client.specs.Parts.{Terms, terms_of};
 ghost use Rattle.git2show_lib.specs.Machine.CheckFaults.{run_fault, run_result, standing_of, AreSpent};
-ghost use Rattle.git2show_lib.specs.Machine.CheckedStreams.{of_responses, placed_result, Checked};
+ghost use Rattle.git2show_lib.specs.Machine.CheckedStreams.{of_responses, Checked};
+ghost use Rattle.git2show_lib.specs.Machine.Checker.{is_opened, nothing_fed};
+ghost use Rattle.git2show_lib.specs.Machine.JudgingStates.{HasFinished, Judges, NeedsInput, judging_states};
 
-use crate::advertisement::receive_advertisement;
-use crate::asking::{Remaining, answer, pass_other};
-use crate::judged_requests::JudgedRequests;
-use crate::left_over::see_the_end;
-use crate::noting::Noting;
-use crate::requests_read::{Next, next_request};
-use git_client::{Client, Ending, Window};
+use crate::checker::Checker;
+use crate::judging::Judging;
+use git_client::Ending;
+use git_loop::{OneOutput, TwoInputs, run_streams};
 use git_msg::Limits;
 use git_names::Format;
 use git_pkt::{Fault, Recorded, RunFault};
@@ -104,84 +105,75 @@ pub fn check<Q: Read, R: Read, O: Write, A: Allocator + Copy>(
         (AreSpent requests.new responses.new turns) (run_fault fault)) }
     ensures announced { FailsAs (run_result result) (has_failed requests.new || has_failed responses.new) (has_failed out.new) }
 {
-    let mut client = Client::new(format, ending);
-    let mut noting = Noting::new(alloc);
-    let arrived = receive_advertisement(
-        &mut client,
-        &mut noting,
-        responses,
-        other_chunk,
-        out,
-        turns,
-    );
-    let left = at_place(arrived, 0)?;
-    let advertised = match noting.into_text() {
-        Ok(text) => text,
-        Err(kind) => {
-            let offset = client.position();
-            return at_place(Err(RunFault::Refused(Fault { kind, offset })), 0);
-        }
-    };
-    let offer = client.caps().offer(format);
-    let mut asking = JudgedRequests::new(alloc, offer, advertised, Limits::DEFAULT);
-    let mut waiting = Window { start: 0, end: 0 };
-    let mut over = Remaining { left, passed: 0 };
-    'requests: loop {
-        match next_request(
-            &mut asking,
-            requests,
-            chunk,
-            &mut waiting,
-            turns - responses.reads(),
-        )? {
-            Next::Request(judged) => {
-                over = answer(
-                    &mut client,
-                    judged,
-                    format,
-                    responses,
-                    other_chunk,
-                    over,
-                    out,
-                    turns - requests.reads(),
-                )?;
-            }
-            Next::Other(others) => {
-                let place = client.position().saturating_add(over.passed);
-                over = pass_other(
-                    &others,
-                    ending,
-                    place,
-                    responses,
-                    other_chunk,
-                    over,
-                    out,
-                    turns - requests.reads(),
-                )?;
-            }
-            Next::Nothing => {
-                return see_the_end(
-                    responses,
-                    other_chunk,
-                    over.left,
-                    client.position().saturating_add(over.passed),
-                    turns - requests.reads(),
-                );
-            }
-        }
+    let checker = Checker::new(alloc, format, ending, Limits::DEFAULT);
+    let mut judging = Judging::new(checker);
+    let mut inputs = TwoInputs::new(requests, chunk, responses, other_chunk);
+    let mut output = OneOutput::new(out);
+    judge(&mut judging, &mut inputs, &mut output, turns)
+}
+
+/// Runs a new judge over both streams, and reports its verdict.
+fn judge<Q: Read, R: Read, O: Write, A: Allocator + Copy>(
+    judging: &mut Judging<A>,
+    inputs: &mut TwoInputs<'_, Q, R>,
+    output: &mut OneOutput<'_, O>,
+    turns: u64,
+) -> Result<(), CheckFault>
+    requires nothing_waits { (first_waiting inputs.old ≡ []) × (second_waiting inputs.old ≡ []) }
+    requires new_requests { IsNew (first_reader_of inputs.old) }
+    requires new_responses { IsNew (second_reader_of inputs.old) }
+    requires sound_out { has_failed (writer_of output.old) ≡ false }
+
+    ensures reads { reads_of (first_reader_of inputs.new) + reads_of (second_reader_of inputs.new) ≤ turns }
+    ensures useful { has_wasted (first_reader_of inputs.new) ≡ false }
+    ensures useful_responses { has_wasted (second_reader_of inputs.new) ≡ false }
+    ensures checked { (t : Terms) (limit : ℕ) → Judges t limit nothing_fed nothing_fed [] judging.old → Moves (is_broken (run_result result))
+        (Checked A t limit result (standing_of (first_reader_of inputs.new)) (standing_of (second_reader_of inputs.new)))
+        (flow (Q.remaining (inner_of (first_reader_of inputs.old))) (Q.remaining (inner_of (first_reader_of inputs.new)))
+        ∷ flow (R.remaining (inner_of (second_reader_of inputs.old))) (R.remaining (inner_of (second_reader_of inputs.new))) ∷ [])
+        (flow (O.contents (inner_of (writer_of output.old))) (O.contents (inner_of (writer_of output.new))) ∷ []) }
+    ensures fault { IfErr result (λ fault. IsShownBy
+        (IsTrue (has_failed (first_reader_of inputs.new) || has_failed (second_reader_of inputs.new))) (IsTrue (has_failed (writer_of output.new)))
+        (AreSpent (first_reader_of inputs.new) (second_reader_of inputs.new) turns) (run_fault fault)) }
+    ensures announced { FailsAs (run_result result) (has_failed (first_reader_of inputs.new) || has_failed (second_reader_of inputs.new))
+        (has_failed (writer_of output.new)) }
+    ensures same_readers { HaveSameReaders inputs.old inputs.new }
+    ensures same_writer { HaveSameWriter output.old output.new }
+{
+    if let Err(fault) = run_judge(judging, inputs, output, turns) {
+        return Err(CheckFault::from(fault));
+    }
+    match judging.verdict() {
+        Some(verdict) => verdict,
+        None => unreachable!(),
     }
 }
 
-/// The same answer of a run over the responses, where so many bytes of them were before what it counts.
-pub(crate) fn at_place<T>(run: Result<T, RunFault>, before: u64) -> Result<T, CheckFault>
-    ensures { result ≡ placed_result before run }
+/// Runs a judge over both streams, until it has a verdict.
+fn run_judge<Q: Read, R: Read, O: Write, A: Allocator + Copy>(
+    judging: &mut Judging<A>,
+    inputs: &mut TwoInputs<'_, Q, R>,
+    output: &mut OneOutput<'_, O>,
+    turns: u64,
+) -> Result<(), RunFault>
+    requires nothing_waits { (first_waiting inputs.old ≡ []) × (second_waiting inputs.old ≡ []) }
+    requires new_requests { IsNew (first_reader_of inputs.old) }
+    requires new_responses { IsNew (second_reader_of inputs.old) }
+    requires sound_out { has_failed (writer_of output.old) ≡ false }
+
+    ensures reads { reads_of (first_reader_of inputs.new) + reads_of (second_reader_of inputs.new) ≤ turns }
+    ensures useful { has_wasted (first_reader_of inputs.new) ≡ false }
+    ensures useful_responses { has_wasted (second_reader_of inputs.new) ≡ false }
+    ensures ran { RanTwo Q.remaining R.remaining O.contents judging_states (NeedsInput judging.new) (HasFinished judging.new) result judging.old judging.new
+        (first_reader_of inputs.old) (first_reader_of inputs.new) (second_reader_of inputs.old) (second_reader_of inputs.new)
+        (first_waiting inputs.new) (second_waiting inputs.new) (writer_of output.old) (writer_of output.new) }
+    ensures opened { (is_opened judging.new.checker ≡ true) ⊎ (first_waiting inputs.new ≡ []) }
+    ensures fault { IfErr result (IsShownBy (IsTrue (has_failed (first_reader_of inputs.new) || has_failed (second_reader_of inputs.new)))
+        (IsTrue (has_failed (writer_of output.new))) (AreSpent (first_reader_of inputs.new) (second_reader_of inputs.new) turns)) }
+    ensures announced { FailsAs result (has_failed (first_reader_of inputs.new) || has_failed (second_reader_of inputs.new))
+        (has_failed (writer_of output.new)) }
+    ensures same_readers { HaveSameReaders inputs.old inputs.new }
+    ensures same_writer { HaveSameWriter output.old output.new }
 {
-    match run {
-        Ok(done) => Ok(done),
-        Err(RunFault::Refused(fault)) => Err(CheckFault::Responses(Fault {
-            kind: fault.kind,
-            offset: fault.offset.saturating_add(before),
-        })),
-        Err(fault) => Err(CheckFault::from(fault)),
-    }
+    run_streams(judging, inputs, output, turns)
 }

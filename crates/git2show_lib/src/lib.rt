@@ -1,14 +1,12 @@
 //! What the program `git2show` does, over any reader and writer.
 #![tactic(auto)]
 
-mod advertisement;
-mod asking;
 pub mod check_laws;
 mod checker;
 mod checking;
 mod json_lines;
 mod judged_requests;
-mod left_over;
+mod judging;
 mod lines;
 mod noting;
 mod other_answers;
@@ -18,7 +16,6 @@ mod playing;
 mod pretty;
 mod renderers;
 mod reports;
-mod requests_read;
 pub mod script_laws;
 mod script_lines;
 mod scripts;
@@ -26,7 +23,6 @@ mod shower;
 mod showing;
 mod sieve;
 pub mod sieve_laws;
-mod sieved_response;
 pub mod view_laws;
 mod views;
 

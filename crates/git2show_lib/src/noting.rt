@@ -61,17 +61,6 @@ impl<A: Allocator + Copy> Noting<A> {
         }
     }
 
-    /// The lines, each with an LF after it; or why one was not kept: `TooMuchKept` or `OutOfMemory`.
-    pub(crate) fn into_text(self) -> Result<Vec<u8, A>, Kind>
-        ensures text { IfOk result (λ text. (self.lost ≡ None) × (text.items ≡ self.text.items)) }
-        ensures why { IfErr result (λ kind. self.lost ≡ Some kind) }
-    {
-        match self.lost {
-            Some(kind) => Err(kind),
-            None => Ok(self.text),
-        }
-    }
-
     /// Hands out the lines, each with an LF after it, and has none any more; or why one was not kept: `TooMuchKept` or `OutOfMemory`.
     pub(crate) fn take_text(&mut self, alloc: A) -> Result<Vec<u8, A>, Kind>
         ensures text { IfOk result (λ text. (self.old.lost ≡ None) × (text.items ≡ self.old.text.items)) }

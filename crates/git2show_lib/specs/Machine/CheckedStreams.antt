@@ -46,15 +46,6 @@ of_responses (Refused fault) = Responses fault
 abbrev pub moved : ℕ → Fault → Fault
 moved before fault = record { kind = fault.kind; offset = min (fault.offset + before) 18446744073709551615 }
 
--- the same of what was met
-abbrev pub placed : ℕ → RunFault → CheckFault
-placed before (Refused fault) = Responses (moved before fault)
-placed before fault = of_responses fault
-
-abbrev pub placed_result : {T : Type 0} → ℕ → Result T RunFault → Result T CheckFault
-placed_result before (Ok done) = Ok done
-placed_result before (Err fault) = Err (placed before fault)
-
 -- ---- what was found in the streams
 
 -- the requests: the bytes that were used and those read after them, what they ask, or that it is nothing that is known, and what comes

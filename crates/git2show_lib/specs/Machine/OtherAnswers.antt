@@ -1,21 +1,12 @@
 -- What a reader of packets does with an answer that passes.
-use Rattle.std.specs.Prelude.{◌≡◌, ℕ, ◌≤◌, ◌<◌, Bool, false, List, [], ◌++◌, length, take, Option, Some, None, Result, Ok, Err}
-use Rattle.std.specs.Io.KnownBytes.{Consumes}
-use Rattle.git_pkt.specs.Faults.{IsOpen}
+use Rattle.std.specs.Prelude.{◌≡◌, ℕ, ◌≤◌, ◌<◌, false, List, ◌++◌, length, take, Option, Some, None, Result, Ok, Err}
 use Rattle.git_pkt.specs.Splits.{Given}
-use Rattle.git_pkt.specs.Streams.{Flow, IsTimely}
 use Rattle.git_pkt.specs.Machine.PacketReader.{Reads, ShownByFeed, fault_of, passes_of, position_of}
 use Rattle.git_pkt.specs.declared.fault.Fault.{Fault}
 use Rattle.git_pkt.specs.declared.fault.Kind.TheVariants.{Truncated}
-use Rattle.git_pkt.specs.declared.fault.RunFault.{RunFault}
-use Rattle.git_pkt.specs.declared.fault.RunFault.TheVariants.{ReadFault, WriteFault, ReadLimit, Refused}
 use Rattle.git_pkt.specs.declared.reader.PacketReader.{PacketReader}
-use Rattle.git_client.specs.Machine.RunSteps.{window_of}
 use Rattle.git_client.specs.declared.events.Ending.{Ending}
 use Rattle.git2show_lib.specs.Others.{AreCutOff, BreakOff, IsAnswerBegun, IsOtherAnswer, NoneIs, last_of}
-use Rattle.git2show_lib.specs.declared.other_answers.Passed.{Passed}
-
--- ---- the reader
 
 -- it has packets of an answer, and none is the last
 pub record Passes (ending : Ending) (used : List ℕ) (r : PacketReader) : Type 0 where
@@ -64,44 +55,3 @@ abbrev pub ClosesAnswer : Fault → PacketReader → Type 0
 ClosesAnswer fault old =
     (fault.kind ≡ Truncated)
     × ((used : List ℕ) (given : List Given) (rest : List ℕ) → Reads old 0 used given rest → AreCutOff rest (length used) fault)
-
--- ---- an answer over a reader of bytes
-
--- of the bytes that waited and those that came, all but the last were used
-pub record Uses (used waiting unused : List ℕ) (reader : Flow) : Type 0 where
-  pub came : List ℕ
-  pub read : Consumes reader.before reader.after came
-  pub parts : waiting ++ came ≡ used ++ unused
-
--- the answer passed whole
-pub record PassesWhole (ending : Ending) (passed : Passed) (waiting chunk : List ℕ) (reader : Flow) : Type 0 where
-  pub used : List ℕ
-  pub uses : Uses used waiting (window_of passed.left chunk) reader
-  pub answer : IsOtherAnswer ending used
-  pub count : passed.count ≡ length used
-  pub ordered : passed.left.start ≤ passed.left.end
-  pub within : passed.left.end ≤ length chunk
-
--- all bytes were used, and more are expected
-pub record PassesOn (ending : Ending) (waiting : List ℕ) (reader : Flow) : Type 0 where
-  pub used : List ℕ
-  pub uses : Uses used waiting [] reader
-  pub rest : List ℕ
-  pub begun : IsAnswerBegun ending used rest
-  pub still_open : IsOpen rest
-
--- the bytes break off
-pub record PassesNot (ending : Ending) (fault : Fault) (ended : Bool) (waiting : List ℕ) (reader : Flow) : Type 0 where
-  pub used : List ℕ
-  pub unused : List ℕ
-  pub uses : Uses used waiting unused reader
-  pub breaks : BreaksOff ending used fault
-  pub timely : IsTimely fault.kind ended unused
-
--- how an answer passed
-abbrev pub PassesTo : Ending → Result Passed RunFault → Bool → List ℕ → List ℕ → Flow → Type 0
-PassesTo ending (Ok passed) ended waiting chunk reader = PassesWhole ending passed waiting chunk reader
-PassesTo ending (Err ReadFault) ended waiting chunk reader = PassesOn ending waiting reader
-PassesTo ending (Err ReadLimit) ended waiting chunk reader = PassesOn ending waiting reader
-PassesTo ending (Err (Refused fault)) ended waiting chunk reader = PassesNot ending fault ended waiting reader
-PassesTo ending (Err WriteFault) ended waiting chunk reader = ⊥

@@ -5,9 +5,8 @@ use Rattle.git_pkt.specs.declared.fault.Fault.{Fault}
 use Rattle.git_client.specs.Parts.{Terms}
 use Rattle.git2show_lib.specs.Machine.OtherAnswers.{PassesChunk}
 use Rattle.git2show_lib.specs.declared.checker.Turn.TheVariants.{Passing}
-use Rattle.git2show_lib.proofs.CheckerStands.{over_as, reads_as, stands_as, still_open, stood}
+use Rattle.git2show_lib.proofs.CheckerStands.{check_of, over_as, reads_as, stands_as, still_open, stood}
 use Rattle.git2show_lib.proofs.CheckerResponses.{passed_so, passes_further, passes_not, passes_whole}
-use Rattle.git2show_lib.proofs.CheckerSteps.{of_responses_alone}
 use Rattle.git2show_lib.proofs.checker.Checker.feed_passing.Goals as goal
 
 pub returns-in-Ok-Some-clause-carries : goal.returns-in-Ok-Some-clause-carries
@@ -17,7 +16,7 @@ returns-in-Ok-Some-clause-carries g c t limit requests responses lent k =
     let step = passed_so t _ c.pass_chunk.result (Ok (Some c.in-Ok-Some.used)) c.args.self.now.packets c.pass_chunk.new.packets c.args.chunk.now ending (cc)
     c.pass_chunk.ensures in
     let now : c.saturating_add-self.result ≡ min (c.args.self.now.passed + position_of c.pass_chunk.new.packets) 18446744073709551615 = search rules in
-    of_responses_alone (reads_as _ refl k.terms k.limit_is (passes_whole was step now) was.step.alone)
+    reads_as _ refl (check_of k) (passes_whole was step now) was.read.alone
 
 pub returns-in-Ok-None-clause-carries : goal.returns-in-Ok-None-clause-carries
 returns-in-Ok-None-clause-carries g c t limit requests responses lent k =
@@ -27,7 +26,7 @@ returns-in-Ok-None-clause-carries g c t limit requests responses lent k =
     c.pass_chunk.ensures in
     let on = passes_further was step in
     let bound : length c.args.chunk.now ≤ length c.args.chunk.now = omega arith in
-    of_responses_alone (rw (take_all (length c.args.chunk.now) c.args.chunk.now bound) (stands_as _ Passing c.requires.turn k.terms k.limit_is on))
+    rw (take_all (length c.args.chunk.now) c.args.chunk.now bound) (stands_as _ Passing c.requires.turn (check_of k) on)
 
 pub returns-in-Err-clause-carries : goal.returns-in-Err-clause-carries
 returns-in-Err-clause-carries g c t limit requests responses lent k =
@@ -37,8 +36,8 @@ returns-in-Err-clause-carries g c t limit requests responses lent k =
     c.pass_chunk.ensures in
     let over = passes_not was c.place-place.result c.place-place.ensures c.in-Err.fault step _ _ in
     let bound : length c.args.chunk.now ≤ length c.args.chunk.now = omega arith in
-    of_responses_alone (rw (take_all (length c.args.chunk.now) c.args.chunk.now bound)
-    (over_as _ _ false c.refused-self.ensures (still_open c.args.self.now Passing c.requires.turn (λ none. absurd (cc))) k.terms k.limit_is over))
+    rw (take_all (length c.args.chunk.now) c.args.chunk.now bound)
+    (over_as _ _ false c.refused-self.ensures (still_open c.args.self.now Passing c.requires.turn (λ none. absurd (cc))) (check_of k) over)
 
 pub returns-in-Ok-Some-clause-moves : goal.returns-in-Ok-Some-clause-moves
 returns-in-Ok-Some-clause-moves g c some =

@@ -1,10 +1,12 @@
 use Rattle.std.proofs.Common.{◌++◌, List, ℕ, take, refl, ap, ◌∙◌, append-nil}
+use Rattle.git2show_lib.specs.Machine.Checker.{fed_with}
 use Rattle.git2show_lib.specs.Machine.KeptLines.{noted_in}
 use Rattle.git2show_lib.specs.declared.checker.Turn.TheVariants.{Request, Passing, End, Over}
-use Rattle.git2show_lib.proofs.CheckerStands.{ends_in, sound_in, stands_as, still_sound, stood}
-use Rattle.git2show_lib.proofs.CheckerRequests.{brought, fault_fed, other_fed, passing_begins, reading_further, reading_refused}
-use Rattle.git2show_lib.proofs.CheckerRequests.{reads_of, request_fed, stop_fed, with_lines}
-use Rattle.git2show_lib.proofs.CheckerSteps.{nothing_gathered, of_requests_alone, requests_known}
+use Rattle.git2show_lib.proofs.CheckerStands.{check_of, fits_in, sound_in, stands_as, still_sound, stood}
+use Rattle.git2show_lib.proofs.CheckerRequests.{brought, passing_begins, reading_refused, reads_of, stop_fed, whole_fed, with_lines}
+use Rattle.git2show_lib.proofs.CheckRuns.{reads_on}
+use Rattle.git2show_lib.proofs.CheckerEnds.{shown_in}
+use Rattle.git2show_lib.proofs.CheckerSteps.{nothing_gathered}
 use Rattle.git2show_lib.proofs.checker.Checker.feed_request.Goals as goal
 
 pub feed-read-requires : goal.feed-read-requires
@@ -13,12 +15,12 @@ feed-read-requires g c = (sound_in c.args.self.now Request c.requires.turn).1
 pub invariant_of-self : goal.invariant_of-self
 invariant_of-self g c =
     let feeds = brought c.feed-read.result c.in-More.is c.feed-read.ensures.feeds in
-    record { sound = still_sound c.args.self.now _ c.requires.turn feeds.leaves.1; open_ended = c.args.self.now.open_ended }
+    record { sound = still_sound c.args.self.now _ c.requires.turn feeds.leaves.1; fits = c.args.self.now.fits }
 
 pub invariant_of-self-in-Request-1 : goal.invariant_of-self-in-Request-1
 invariant_of-self-in-Request-1 g c =
     let feeds = brought c.feed-read.result c.in-Request.is c.feed-read.ensures.feeds in
-    record { sound = still_sound c.args.self.now _ c.requires.turn feeds.leaves.0.onward; open_ended = c.args.self.now.open_ended }
+    record { sound = still_sound c.args.self.now _ c.requires.turn feeds.leaves.0.onward; fits = c.args.self.now.fits }
 
 pub ask-requires-clause-turn : goal.ask-requires-clause-turn
 ask-requires-clause-turn g c = c.requires.turn
@@ -31,11 +33,11 @@ invariant_of-self-in-Other g c =
     let feeds = brought c.feed-read.result c.in-Other.is c.feed-read.ensures.feeds in
     record {
       sound = ((sound_in c.args.self.now Request c.requires.turn).0, feeds.leaves.onward, (c.new-self.ensures.sound, c.new-self.ensures.gathers));
-      open_ended = ends_in c.args.self.now Request c.requires.turn;
+      fits = fits_in c.args.self.now Request c.requires.turn;
     }
 
 pub invariant_of-self-in-Stop : goal.invariant_of-self-in-Stop
-invariant_of-self-in-Stop g c = record { sound = tt; open_ended = (ends_in c.args.self.now Request c.requires.turn).1 }
+invariant_of-self-in-Stop g c = record { sound = tt; fits = let fits = fits_in c.args.self.now Request c.requires.turn in (fits.0, fits.2) }
 
 pub returns-in-More-clause-used : goal.returns-in-More-clause-used
 returns-in-More-clause-used g c = c.feed-read.ensures.used
@@ -50,50 +52,51 @@ pub returns-in-Stop-clause-used : goal.returns-in-Stop-clause-used
 returns-in-Stop-clause-used g c = c.feed-read.ensures.used
 
 pub returns-in-Failed-clause-used : goal.returns-in-Failed-clause-used
-returns-in-Failed-clause-used g c = c.feed-read.ensures.used
+returns-in-Failed-clause-used g c = c.shown_by.ensures.within
 
 pub returns-in-More-clause-carries : goal.returns-in-More-clause-carries
 returns-in-More-clause-carries g c t limit requests responses lent k =
     let was = (stood c.args.self.now Request c.requires.turn k).0 in
     let feeds = brought c.feed-read.result c.in-More.is c.feed-read.ensures.feeds in
-    let on = reading_further was.checking (reads_of feeds) in
-    of_requests_alone (stands_as _ Request c.requires.turn k.terms k.limit_is
-    (record { checking = on; ready = feeds.leaves.1 }, λ some. absurd (some c.requires.none_waits)))
+    let on = reads_on was.checking (reads_of feeds) in
+    stands_as _ Request c.requires.turn (check_of k)
+    (record { checking = on; ready = feeds.leaves.1 }, λ some. absurd (some c.requires.none_waits))
 
 pub returns-in-Request-clause-carries : goal.returns-in-Request-clause-carries
 returns-in-Request-clause-carries g c t limit requests responses lent k =
     let was = (stood c.args.self.now Request c.requires.turn k).0 in
     let feeds = brought c.feed-read.result c.in-Request.is c.feed-read.ensures.feeds in
-    let quietly = with_lines (ap (λ (l : List ℕ). lent ++ l) c.requires.none_waits ∙ append-nil lent) (requests_known _ was.checking) in
+    let quietly = with_lines (ap (λ (l : List ℕ). lent ++ l) c.requires.none_waits ∙ append-nil lent) (reads_on was.checking (reads_of feeds)) in
     let used = take c.feed-read.result.used c.args.chunk.now in
-    of_requests_alone (c.ask.ensures t limit (requests ++ used) used responses lent c.args.self.now.requests k.terms k.limit_is quietly
-    (rw c.in-Request.is (request_fed c.feed-read.ensures.used feeds)))
+    c.ask.ensures.asks t limit (fed_with requests used) responses lent (check_of k) (rw c.in-Request.is quietly)
+    (whole_fed feeds.leaves.0) (rw c.in-Request.is feeds.leaves.1)
 
 pub returns-in-Other-clause-carries : goal.returns-in-Other-clause-carries
 returns-in-Other-clause-carries g c t limit requests responses lent k =
     let was = (stood c.args.self.now Request c.requires.turn k).0 in
     let feeds = brought c.feed-read.result c.in-Other.is c.feed-read.ensures.feeds in
-    let quietly = with_lines (ap (λ (l : List ℕ). lent ++ l) c.requires.none_waits ∙ append-nil lent) (requests_known _ was.checking) in
+    let quietly = with_lines (ap (λ (l : List ℕ). lent ++ l) c.requires.none_waits ∙ append-nil lent) (reads_on was.checking (reads_of feeds)) in
     let none = nothing_gathered c.args.self.now.lines (noted_in c.args.self.now.others).lines c.requires.none_waits in
-    of_requests_alone (stands_as _ Passing refl k.terms k.limit_is (rw (c.in-Other.others-is, none)
-    (passing_begins quietly (other_fed c.feed-read.ensures.used feeds) c.new-self.ensures.reads c.new-self.ensures.sound c.new-self.ensures.gathers)))
+    stands_as _ Passing refl (check_of k) (rw (c.in-Other.others-is, none)
+    (passing_begins quietly (whole_fed feeds.leaves) c.new-self.ensures.reads c.new-self.ensures.sound c.new-self.ensures.gathers))
 
 pub returns-in-Stop-clause-carries : goal.returns-in-Stop-clause-carries
 returns-in-Stop-clause-carries g c t limit requests responses lent k =
     let was = (stood c.args.self.now Request c.requires.turn k).0 in
-    let open_ended = ends_in c.args.self.now Request c.requires.turn in
+    let fits = fits_in c.args.self.now Request c.requires.turn in
     let feeds = brought c.feed-read.result c.in-Stop.is c.feed-read.ensures.feeds in
-    of_requests_alone (stands_as _ End refl k.terms k.limit_is (record {
-      earlier = _;
-      asking = _;
-      checking = requests_known _ was.checking;
-      over = λ unused none. rw open_ended.0 (stop_fed feeds unused);
-    }))
+    stands_as _ End refl (check_of k) (record { checking = reads_on was.checking (reads_of feeds); over = rw fits.1 (stop_fed feeds) })
 
 pub returns-in-Failed-clause-carries : goal.returns-in-Failed-clause-carries
 returns-in-Failed-clause-carries g c t limit requests responses lent k =
     let was = (stood c.args.self.now Request c.requires.turn k).0 in
-    let open_ended = ends_in c.args.self.now Request c.requires.turn in
+    let fits = fits_in c.args.self.now Request c.requires.turn in
     let feeds = brought c.feed-read.result c.in-Failed.is c.feed-read.ensures.feeds in
-    of_requests_alone (stands_as _ (Over _) refl k.terms k.limit_is (rw (open_ended.0, open_ended.1)
-    (reading_refused _ c.in-Failed.fault was.checking (λ unused none long. fault_fed feeds unused long) _)))
+    stands_as _ (Over _) refl (check_of k) (rw (fits.1, fits.2)
+    (reading_refused requests.bytes c.in-Failed.fault (reads_on was.checking (reads_of feeds)) feeds.leaves (feeds.news c.in-Failed.fault refl).not_the_end
+    (shown_in _ _ _ _ c.shown_by.ensures.shown (feeds.news c.in-Failed.fault refl).one_more) _))
+
+pub shown_by-requires : goal.shown_by-requires
+shown_by-requires g c =
+    let feeds = brought c.feed-read.result c.in-Failed.is c.feed-read.ensures.feeds in
+    record { within = c.feed-read.ensures.used; one_more = (feeds.news c.in-Failed.fault refl).one_more }

@@ -1,7 +1,7 @@
 use Rattle.std.proofs.Common.{◌≢◌, [], sym, ap, ◌∙◌}
 use Rattle.git2show_lib.specs.OtherLines.{Noted}
 use Rattle.git2show_lib.specs.Machine.Checker.{lent_by}
-use Rattle.git2show_lib.proofs.CheckerCalls.{IsTaken, checks_taken, same_terms, sieves_on, some_wait, taken_gathered, taken_others}
+use Rattle.git2show_lib.proofs.CheckerCalls.{IsTaken, checks_taken, same_check, sieves_on, some_wait, taken_gathered, taken_others}
 use Rattle.git2show_lib.proofs.Scripting.{no_bytes, some_bytes}
 use Rattle.git2show_lib.proofs.checker.Checker.lines_taken.Given as given
 use Rattle.git2show_lib.proofs.checker.Checker.lines_taken.Goals as goal
@@ -18,18 +18,17 @@ taken g c =
           (λ none. some_bytes c.as_slice.result.now (sym c.is_empty.ensures ∙ w.if-is_empty.false) (c.as_slice.ensures ∙ none)) w.clear.ensures
     ]
 
-pub returns-then-not-is_empty : goal.returns-then-not-is_empty
-returns-then-not-is_empty g c t limit requests responses lent k =
+pub returns-then-not-is_empty-clause-carries : goal.returns-then-not-is_empty-clause-carries
+returns-then-not-is_empty-clause-carries g c t limit requests responses lent k =
     let some : lent_by c.if-is_empty.self ≢ [] =
     λ none. some_bytes c.lines.result.now (sym c.is_empty-2.ensures ∙ c.if-not-is_empty.true) (c.lines.ensures ∙ none) in
-    checks_taken (taken g (goal.at.returns-then-not-is_empty g c).After-lines) (λ start is none. some_wait c.if-is_empty.self some none) k
+    checks_taken (taken g (goal.at.returns-then-not-is_empty-clause-carries g c).After-lines) (λ start is none. some_wait c.if-is_empty.self some none) k
 
-pub returns-in-Sieved : goal.returns-in-Sieved
-returns-in-Sieved g c t limit requests responses lent k =
-    let done = taken g (goal.at.returns-in-Sieved g c).After-lines in
-    let (terms, limit_is) = same_terms done k in
-    c.pass_on.ensures t limit requests responses _ terms limit_is (sieves_on c.in-Sieved.start done c.in-Sieved.is k)
+pub returns-in-Sieved-clause-carries : goal.returns-in-Sieved-clause-carries
+returns-in-Sieved-clause-carries g c t limit requests responses lent k =
+    let done = taken g (goal.at.returns-in-Sieved-clause-carries g c).After-lines in
+    c.pass_on.ensures.passes t limit requests responses _ (same_check done k) (sieves_on c.in-Sieved.start done c.in-Sieved.is k)
 
-pub returns-in_default : goal.returns-in_default
-returns-in_default g c t limit requests responses lent k =
-    checks_taken (taken g (goal.at.returns-in_default g c).After-lines) (λ start is none. c.in_default.not-Sieved start is) k
+pub returns-in_default-clause-carries : goal.returns-in_default-clause-carries
+returns-in_default-clause-carries g c t limit requests responses lent k =
+    checks_taken (taken g (goal.at.returns-in_default-clause-carries g c).After-lines) (λ start is none. c.in_default.not-Sieved start is) k

@@ -7,6 +7,8 @@ pub returns : goal.returns
 returns g c = record {
   terms = refl;
   limit_is = refl;
+  requests_closed = refl;
+  responses_closed = refl;
   stands = (
     refl,
     refl,
