@@ -4,12 +4,11 @@ use Rattle.std.proofs.Common.{append-nil}
 use Rattle.std.proofs.Math.Seq.{take-add}
 use Rattle.std.proofs.lemmas.List.{length-drop, length-take-le, take-append-drop, take_all}
 use Rattle.std.specs.Global.{Global}
-use Rattle.git_client.specs.Parts.{Terms}
-use Rattle.git2show_lib.specs.Machine.Checker.{Carries, Checks, is_needed, lent_by, needed_by, needed_of}
+use Rattle.git2show_lib.specs.Machine.Checker.{CarriesLines, Checks, Fed, Leads, StaysOpened, is_needed, lent_by, needed_by, needed_of}
 use Rattle.git2show_lib.specs.declared.checker.Checker.{Checker}
 use Rattle.git2show_lib.specs.declared.checker.Stream.{Stream}
 use Rattle.git2show_lib.specs.declared.checker.Stream.TheVariants.{Requests, Responses}
-use Rattle.gitwire.specs.CheckerAnswers.{CopiesLines, Gives, Uses, rest_of}
+use Rattle.gitwire.specs.CheckerAnswers.{CopiesLines, Gives, UsesBy, rest_of}
 use Rattle.gitwire.specs.declared.judge.Judge.{Judge}
 
 -- the slice of the lines that begins there
@@ -17,7 +16,7 @@ pub rest_is : (lines lent : List ℕ) (copied : ℕ) → lines ≡ lent → take
 rest_is lines lent copied same =
     take_all (length lines - copied) (drop copied lines) (omega (arith, length-drop copied lines)) ∙ ap (drop copied) same
 
--- ---- bytes of a stream are used, where no line waits
+-- ---- bytes of a stream are used, or its end, where no line waits
 
 nothing_lent : (c : Checker Global) (lines : List ℕ) (stream : Stream) → is_needed stream (needed_by c lines) ≡ true → lines ≡ []
 nothing_lent c [] stream needs = refl
@@ -28,22 +27,20 @@ pub none_copied : (judge : Judge) (stream : Stream) → is_needed stream (needed
 none_copied judge stream needs =
     omega (arith, judge.within, ap length (nothing_lent judge.checker (lent_by judge.checker) stream needs))
 
-pub uses_on : (stream : Stream) (bytes : List ℕ) (old new : Judge) → old.copied ≡ 0 → new.copied ≡ 0 → Carries stream bytes old.checker new.checker
-    → Uses stream bytes old new
-uses_on stream bytes old new none still carries t limit requests responses given h = record {
+pub uses_on : (stream : Stream) (step : Fed → Fed) (old new : Judge) → old.copied ≡ 0 → new.copied ≡ 0 → Leads stream step old.checker new.checker
+    → UsesBy stream step old new
+uses_on stream step old new none still leads t limit requests responses given h = record {
   taken = h.taken;
   given_is =
       h.given_is ∙ ap (λ (n : ℕ). h.taken ++ take n (lent_by old.checker)) none ∙ ap (λ (n : ℕ). h.taken ++ take n (lent_by new.checker)) (sym still);
-  checks = carries t limit requests responses h.taken h.checks;
+  checks = leads t limit requests responses h.taken h.checks;
 }
 
 -- ---- lines are copied
 
 -- all that was left is copied, and then the lines are taken
 pub gives_last : (old new : Judge) (count : ℕ) → length (rest_of old) ≤ count → new.copied ≡ 0
-    → ((t : Terms) (limit : ℕ) (requests responses lent : List ℕ) → Checks t limit requests responses lent old.checker
-    → Checks t limit requests responses (lent ++ lent_by old.checker) new.checker)
-    → Gives (take count (rest_of old)) old new
+    → CarriesLines old.checker new.checker → Gives (take count (rest_of old)) old new
 gives_last old new count all none takes t limit requests responses given h =
     let lent = lent_by old.checker in
     record {
@@ -76,8 +73,9 @@ gives_more old new count same more t limit requests responses given h =
 -- as many bytes as fit are at the front of the buffer
 pub copies : (old new : Judge) (buffer filled : List ℕ) (count : ℕ) → 0 < length (lent_by old.checker)
     → old.copied ≤ length (lent_by old.checker) - 1 → 0 < length buffer → count ≡ min (length (rest_of old)) (length buffer)
-    → filled ≡ take count (rest_of old) ++ drop count buffer → Gives (take count (rest_of old)) old new → CopiesLines old buffer count filled new
-copies old new buffer filled count waits within space least is gives =
+    → filled ≡ take count (rest_of old) ++ drop count buffer → Gives (take count (rest_of old)) old new → StaysOpened old.checker new.checker
+    → CopiesLines old buffer count filled new
+copies old new buffer filled count waits within space least is gives stays =
     let left = length-drop old.copied (lent_by old.checker) in
     let count_is = length-take-le count (rest_of old) (omega (arith, least)) in
     record {
@@ -85,4 +83,5 @@ copies old new buffer filled count waits within space least is gives =
       some = omega (arith, least, left, waits, within, space);
       buffer_is = is ∙ ap (λ (n : ℕ). take count (rest_of old) ++ drop n buffer) (sym count_is);
       gives = gives;
+      stays_opened = stays;
     }

@@ -7,7 +7,8 @@ use Rattle.git_pkt.specs.declared.fault.Kind.TheVariants.{ReadFault, WriteFault,
 use Rattle.git_msg.specs.Arguments.{most_limit}
 use Rattle.git_client.specs.Parts.{Terms, terms_of}
 use Rattle.git_client.specs.declared.events.Ending.{Ending}
-use Rattle.git2show_lib.specs.Machine.Checker.{Checks, is_needed, lent_by, needed_of, of_requests, of_responses, verdict_of}
+use Rattle.git2show_lib.specs.Machine.Checker.{Checks, Fed, StaysOpened, fed_closed, fed_with, is_needed, lent_by, needed_of}
+use Rattle.git2show_lib.specs.Machine.Checker.{nothing_fed, requests_after, responses_after, verdict_of}
 use Rattle.git2show_lib.specs.declared.checker.Needed.{Needed}
 use Rattle.git2show_lib.specs.declared.checker.Needed.TheVariants.{Lines, Input, Nothing}
 use Rattle.git2show_lib.specs.declared.checker.Stream.{Stream}
@@ -24,28 +25,35 @@ use Rattle.gitwire.specs.declared.judge.Judge.{Judge}
 abbrev pub streams : List Stream
 streams = Requests ∷ Responses ∷ []
 
--- it used these bytes of each stream, and C has these lines, the last of them perhaps in part
-pub record HasChecked (t : Terms) (limit : ℕ) (requests responses given : List ℕ) (judge : Judge) : Type 0 where
+-- it used this of each stream, and C has these lines, the last of them perhaps in part
+pub record HasChecked (t : Terms) (limit : ℕ) (requests responses : Fed) (given : List ℕ) (judge : Judge) : Type 0 where
   pub taken : List ℕ
   pub given_is : given ≡ taken ++ take judge.copied (lent_by judge.checker)
   pub checks : Checks t limit requests responses taken judge.checker
 
--- it used bytes of this stream
+-- of this stream alone more was used, as this step has it
+abbrev pub UsesBy : Stream → (step : Fed → Fed) → (old new : Judge) → Type 0
+UsesBy stream step old new =
+    (t : Terms) (limit : ℕ) (requests responses : Fed) (given : List ℕ) → HasChecked t limit requests responses given old
+    → HasChecked t limit (requests_after stream step requests) (responses_after stream step responses) given new
+
+-- it used bytes of this stream, or its end
 abbrev pub Uses : Stream → (bytes : List ℕ) → (old new : Judge) → Type 0
-Uses stream bytes old new =
-    (t : Terms) (limit : ℕ) (requests responses given : List ℕ) → HasChecked t limit requests responses given old
-    → HasChecked t limit (requests ++ of_requests stream bytes) (responses ++ of_responses stream bytes) given new
+Uses stream bytes old new = UsesBy stream (λ (fed : Fed). fed_with fed bytes) old new
+
+abbrev pub UsesEnd : Stream → (old new : Judge) → Type 0
+UsesEnd stream old new = UsesBy stream fed_closed old new
 
 -- it gave these bytes of lines to C
 abbrev pub Gives : (lines : List ℕ) → (old new : Judge) → Type 0
 Gives lines old new =
-    (t : Terms) (limit : ℕ) (requests responses given : List ℕ) → HasChecked t limit requests responses given old
+    (t : Terms) (limit : ℕ) (requests responses : Fed) (given : List ℕ) → HasChecked t limit requests responses given old
     → HasChecked t limit requests responses (given ++ lines) new
 
 -- a checker before the first byte, or none if memory ran out
 abbrev pub Begins : Terms → ℕ → ℕ → Option Judge → Type 0
 Begins t limit answer new =
-    MatchOption new (answer ≡ what_number What.OutOfMemory) (λ judge. (answer ≡ what_number What.Done) × HasChecked t limit [] [] [] judge)
+    MatchOption new (answer ≡ what_number What.OutOfMemory) (λ judge. (answer ≡ what_number What.Done) × HasChecked t limit nothing_fed nothing_fed [] judge)
 
 -- nothing changes if the limit is above the maximum
 pub record BeginsWithin (t : Terms) (limit : ℕ) (old : Option Judge) (answer : ℕ) (new : Option Judge) : Type 0 where
@@ -63,6 +71,7 @@ pub record FeedsNeeded (stream : Stream) (old : Judge) (chunk : List ℕ) (answe
   pub answer_is : answer ≡ answering_used used What.More
   pub within : used ≤ length chunk
   pub uses : Uses stream (take used chunk) old new
+  pub stays_opened : StaysOpened old.checker new.checker
   pub moves : 0 < length chunk → (0 < used) ⊎ IsSome (verdict_of new.checker)
 
 -- if bytes of the stream are needed; else nothing changes
@@ -78,7 +87,8 @@ FeedsStream (Some stream) old chunk answer new = FeedsIf (is_needed stream (need
 -- the stream ends, and no more of it is needed
 pub record ClosesNeeded (stream : Stream) (old : Judge) (answer : ℕ) (new : Judge) : Type 0 where
   pub answer_is : answer ≡ what_number What.Done
-  pub uses : Uses stream [] old new
+  pub uses : UsesEnd stream old new
+  pub stays_opened : StaysOpened old.checker new.checker
   pub ended : is_needed stream (needed_of new.checker) ≡ false
 
 -- if bytes of the stream are needed; else nothing changes
@@ -101,6 +111,7 @@ pub record CopiesLines (old : Judge) (buffer : List ℕ) (count : ℕ) (filled :
   pub some : 0 < count
   pub buffer_is : filled ≡ put_before (take count (rest_of old)) buffer
   pub gives : Gives (take count (rest_of old)) old new
+  pub stays_opened : StaysOpened old.checker new.checker
 
 -- a fault of reading or writing, which no machine meets
 abbrev pub unread : Kind → GitwireAnswer

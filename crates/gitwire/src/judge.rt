@@ -20,10 +20,11 @@ pub(crate) struct Judge {
 impl Judge {
     ghost use Rattle.std.specs.Prelude.{◌<◌, []};
     ghost use Rattle.git_client.specs.Parts.{terms_of};
+    ghost use Rattle.git2show_lib.specs.Machine.Checker.{nothing_fed};
     ghost use Rattle.gitwire.specs.CheckerAnswers.{CopiesLines, HasChecked};
 
     pub(crate) fn new(alloc: Global, format: Format, ending: Ending, limits: Limits) -> Judge
-        ensures { HasChecked (terms_of format ending) limits.args [] [] [] result }
+        ensures { HasChecked (terms_of format ending) limits.args nothing_fed nothing_fed [] result }
     {
         Judge {
             checker: Checker::new(alloc, format, ending, limits),

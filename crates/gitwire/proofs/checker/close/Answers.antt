@@ -1,4 +1,4 @@
-use Rattle.std.proofs.Common.{arith, [], sym, ◌∙◌}
+use Rattle.std.proofs.Common.{arith, sym, ◌∙◌}
 use Rattle.gitwire.proofs.CopiedLines.{none_copied, uses_on}
 use Rattle.gitwire.proofs.checker.close.Goals as goal
 
@@ -13,6 +13,7 @@ returns c =
     let none = none_copied c.args.judge.now c.in-Some.stream needed in
     rw (← c.in-Some.ensures, needed) (record {
       answer_is = c.number-2.ensures;
-      uses = uses_on c.in-Some.stream [] c.args.judge.now _ none none c.close.ensures.carries;
+      uses = uses_on c.in-Some.stream _ c.args.judge.now _ none none (c.close.ensures.carries needed);
+      stays_opened = c.close.ensures.stays_opened;
       ended = c.close.ensures.ended needed;
     })

@@ -19,5 +19,6 @@ returns c =
       answer_is = c.of_used.ensures;
       within = c.feed.ensures.used;
       uses = uses_on c.in-Some.stream _ c.args.judge.now _ none none c.feed.ensures.carries;
+      stays_opened = c.feed.ensures.stays_opened;
       moves = c.feed.ensures.moves needed;
     })
