@@ -70,6 +70,7 @@ git_client event_parts: transcript line
 git_client transcript: client
 git_client line: events client
 git_client receiving: Request
+git_client receiver gathered: io Recorded
 git_client conversing: Event ReceivedGot
 git_repository *: io fs
 git_repository packs text_faults: drafts repository_lines
@@ -79,8 +80,7 @@ git_trace *: io
 git_trace escapes labels: TraceLine
 git_trace trace_lines: shown_lines trace_texts
 git2show_lib judged_requests others noting scripts script_lines sieve: io
-git2show_lib left_over: judged_requests
-git2show_lib advertisement: Request
+git2show_lib checker judging other_answers: io Recorded
 git2show_lib others sieve: Allocator
 git2show_lib lines renderers shower: io Recorded
 git2show_lib showing: escape_into

@@ -31,7 +31,7 @@ NOT_IN_NAMES = set("hear hears heard hearing tell tells told telling say says sa
 
 # Names of the kit, and others that may have one.
 NAMES_ALLOWED = {
-    "handle_tells": "of the kit", "leb_tells": "of the kit", "shr_Tells": "of the kit", "mut_Tells": "of the kit",
+    "handle_tells": "of the kit", "leb_tells": "of the kit", "shr_Tells": "of the kit", "shr_slice_Tells": "of the kit", "mut_Tells": "of the kit",
     "uint_Tells": "of the kit", "says": "of the kit", "told": "of the kit", "heard": "of the kit",
     "make_room": "that it fits", "room_at_all": "that it fits",
 }
